@@ -18,7 +18,7 @@ use Rattle.sdb_model.specs.ReadSet.{ReadItem, KeyRead, SpanRead, meaning_of, rea
 use Rattle.sdb_model.specs.Sql.{reads_commit}
 use Rattle.sdb_model.specs.Requests.{records_put}
 use Rattle.sdb_model.specs.Transactions.{Executed, is_prepared_record}
-use Rattle.sdb_model.proofs.Public.{in_only, only_put, PreparesAt, shown_unmet, unmet_shown}
+use Rattle.sdb_model.proofs.Public.{in_only, only_put, PreparesAt, observed_unmet, unmet_observed}
 use Rattle.check_protocol.proofs.Public.{any_some, In, none_some, not_true, or_left, right, some_any, true_not}
 use Rattle.check_tables.specs.Values.{all_made, made_of}
 use Rattle.check_answers.specs.Tests.{any_id, base_put, conflict_at_commit, conflict_at_scan, conflict_of, get_observes, has_changed_from, has_prepared, is_commit_of, is_found_by, is_in, is_changed, is_rebased, is_unmet, not_met_as, read_observes, same_found, scan_differs, scan_observes, scan_observes_by, means, means_by}
@@ -183,13 +183,13 @@ module _ (events : List Event) (ms : List Made) (client : ℕ) (s : Executed) (e
       let r = any_some (is_unmet id key found) ms h in
       let p = prepares_key id key (made_of r.0) in
       let n = not_met_as r.0.reply found in
-      (made_of r.0, contained r.0 r.1, left p n r.2, unmet_shown id key found r.0.request r.0.reply (left p n r.2) (met_is r.0.reply found (right p n r.2)))
+      (made_of r.0, contained r.0 r.1, left p n r.2, unmet_observed id key found r.0.request r.0.reply (left p n r.2) (met_is r.0.reply found (right p n r.2)))
 
   is_unmet_of : (id : TxId) → IsUnmet (calls_of events client s) id key found → list_any (is_unmet id key found) ms ≡ true
   is_unmet_of id (c, k, p, n) =
       let m = made c k in
       some_any (is_unmet id key found) ms m.0 m.1
-      (both (prepares_key id key (made_of m.0)) (not_met_as m.0.reply found) (sym (ap (prepares_key id key) m.2) ∙ p) (is_met m.0.reply found (sym (ap (λ (x : calls.StoreCall). x.reply) m.2) ∙ shown_unmet id key found c.request c.reply p n)))
+      (both (prepares_key id key (made_of m.0)) (not_met_as m.0.reply found) (sym (ap (prepares_key id key) m.2) ∙ p) (is_met m.0.reply found (sym (ap (λ (x : calls.StoreCall). x.reply) m.2) ∙ observed_unmet id key found c.request c.reply p n)))
 
   -- a key is prepared by the calls, seen either way
   prepared_as : (id : TxId) → list_any (prepares_key id key) (calls_of events client s) ≡ has_prepared ms id key

@@ -33,8 +33,8 @@ use Rattle.check_protocol.specs.Values.{ack_of, all_labelled, item_of, plan_in, 
 use Rattle.check_protocol.specs.Started.{commit_started_in, open_in, owner_of, stopped_in, staged_in, deciding_in, asked_in, acknowledged_in, checked_in}
 use Rattle.check_protocol.specs.Rules.{is_sound, matches_reply, in_commit, is_put, puts_write, prepares_well, is_as_read, are_as_read, finds_read, checks_well, same_read, agrees_at, agrees, is_item_checked, decides_well, aborts_well}
 use Rattle.check_protocol.proofs.Lists.{none_some, right, or_left, not_true, true_not, not_both, In, all_each, each_all, found_some, got_in, in_got, got_map, placed_each, each_placed}
-use Rattle.check_protocol.proofs.SaidLaws.{is_deciding, is_later, taken_is, open_is, owner_is, stopped_is, staged_is, deciding_is, asked_is, told_is, checked_is}
-use Rattle.check_protocol.proofs.ShownLaws.{number_is, is_number}
+use Rattle.check_protocol.proofs.StateLaws.{is_deciding, is_later, taken_is, open_is, owner_is, stopped_is, staged_is, deciding_is, asked_is, told_is, checked_is}
+use Rattle.check_protocol.proofs.ObservedLaws.{number_is, is_number}
 use Rattle.check_protocol.proofs.PlanLaws.{is_sound_of, write_is, write_in_is, write_own, written_at, noted_says, says_noted, got_says, says_got, says_scan, among_is}
 use Rattle.check_protocol.proofs.TakeLaws.{key_within, is_within}
 use Rattle.sdb_types.proofs.Public.{and_both as both, and_first as left, clash, decides as decide, either, or_second as or_right, same_key_exact, same_key_of, some_is}

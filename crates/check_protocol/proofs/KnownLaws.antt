@@ -16,8 +16,8 @@ use Rattle.check_protocol.specs.Started.{is_take_of, is_prepare_of, commit_start
 use Rattle.check_protocol.specs.Observed.{observed, moments, observes_commit, observes_abort}
 use Rattle.check_protocol.specs.Rules.{is_sound, is_known_committed, is_known_aborted, prepared_by, own, with_own, has_own_moment, known_moments}
 use Rattle.check_protocol.proofs.Lists.{none_some, right, or_left, not_true, true_not, In}
-use Rattle.check_protocol.proofs.SaidLaws.{taken_is, asked_is, won_is, dead_is, met_is, risked_is}
-use Rattle.check_protocol.proofs.ShownLaws.{in_more, more_in, last_in, number_is, commit_shown, shows_commit_of, abort_shown, shows_abort_of, moment_shown, shown_moment}
+use Rattle.check_protocol.proofs.StateLaws.{taken_is, asked_is, won_is, dead_is, met_is, risked_is}
+use Rattle.check_protocol.proofs.ObservedLaws.{in_more, more_in, last_in, number_is, commit_shown, shows_commit_of, abort_shown, shows_abort_of, moment_shown, shown_moment}
 use Rattle.check_protocol.proofs.PlanLaws.{is_sound_of, write_is}
 use Rattle.sdb_types.proofs.Public.{and_both as both, and_first as left, clash, either, or_second as or_right, some_is}
 use Rattle.sdb_types.specs.Order.{same_key}

@@ -1,6 +1,6 @@
 mod Lists
-mod SaidLaws
-mod ShownLaws
+mod StateLaws
+mod ObservedLaws
 mod SettledLaws
 mod Requests
 mod PlanLaws

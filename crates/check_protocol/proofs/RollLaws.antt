@@ -25,8 +25,8 @@ use Rattle.check_protocol.specs.Started.{is_begin_of, touches, opens, ends_with,
 use Rattle.check_protocol.specs.Observed.{observed, is_prepared_by, is_before_image_of, has_no_before, is_forward, settles_removed}
 use Rattle.check_protocol.specs.Rules.{own, known_moments, is_rolled_forward, rolls_open, rolls_forward, is_put_back, is_rolled_back, undoes, rolls_back, rolls_well, is_left, is_shut, are_shut, removes_version, removes_well, is_known_aborted}
 use Rattle.check_protocol.proofs.Lists.{right, or_left, not_true, true_not, not_both, any_some, some_any, all_each, each_all, found_in}
-use Rattle.check_protocol.proofs.SaidLaws.{open_is, owner_is, stopped_is}
-use Rattle.check_protocol.proofs.ShownLaws.{number_is, is_number, is_shown, forward_is, is_forward_at, kept_is, is_kept_of, keeps_none_is, is_keeps_none}
+use Rattle.check_protocol.proofs.StateLaws.{open_is, owner_is, stopped_is}
+use Rattle.check_protocol.proofs.ObservedLaws.{number_is, is_number, is_shown, forward_is, is_forward_at, kept_is, is_kept_of, keeps_none_is, is_keeps_none}
 use Rattle.check_protocol.proofs.SettledLaws.{held_by, is_held_by_of, gone_is, gone_of}
 use Rattle.check_protocol.proofs.KnownLaws.{moment_known, known_moment, aborted_is, is_aborted, own_is, is_own}
 use Rattle.sdb_types.proofs.Public.{and_both as both, and_first as left, clash, decides as decide, either, or_second as or_right, same_key_exact, same_key_of}

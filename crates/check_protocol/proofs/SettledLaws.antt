@@ -19,7 +19,7 @@ use Rattle.check_protocol.specs.declared.labelled.Labelled.{Labelled}
 use Rattle.check_protocol.specs.Values.{all_labelled, same_record}
 use Rattle.check_protocol.specs.Observed.{observed, writer_is, before_writer, has_tombstone_before, is_before_image_of, is_prepared_at, is_prepared_by, observes_commit, moments, is_forward, is_itself, is_back, forward_from, is_settled, settles, settles_removed}
 use Rattle.check_protocol.proofs.Lists.{right, or_left, not_true, true_not, In, any_some, some_any}
-use Rattle.check_protocol.proofs.ShownLaws.{record_is, is_record, number_is, is_number, shown_is, is_shown, commit_shown, shows_commit_of, moment_shown, shown_moment, forward_is, is_forward_at, kept_is, is_kept_of, kept_writer_is, kept_some, before_columns}
+use Rattle.check_protocol.proofs.ObservedLaws.{record_is, is_record, number_is, is_number, shown_is, is_shown, commit_shown, shows_commit_of, moment_shown, shown_moment, forward_is, is_forward_at, kept_is, is_kept_of, kept_writer_is, kept_some, before_columns}
 use Rattle.sdb_types.proofs.Public.{and_both as both, and_first as left, clash, either, or_second as or_right, same_key_exact, same_key_of}
 use Rattle.sdb_types.specs.Order.{same_key}
 use Rattle.law_protocol.proofs.Public.{some_id}

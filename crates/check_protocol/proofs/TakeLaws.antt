@@ -32,8 +32,8 @@ use Rattle.check_protocol.specs.Started.{begun_in, commit_started_in, open_in, o
 use Rattle.check_protocol.specs.Observed.{observed, is_settled}
 use Rattle.check_protocol.specs.Rules.{is_sound, is_valid_write, is_valid_key, are_valid_writes, is_valid_version, is_valid_found, is_valid_item, begins_well, starts_well}
 use Rattle.check_protocol.proofs.Lists.{none_some, right, or_left, not_true, true_not, not_both, all_each, each_all, got_in, in_got}
-use Rattle.check_protocol.proofs.SaidLaws.{is_zero, zero_is, begun_is, taken_is, open_is, owner_is, stopped_is}
-use Rattle.check_protocol.proofs.ShownLaws.{number_is, is_number}
+use Rattle.check_protocol.proofs.StateLaws.{is_zero, zero_is, begun_is, taken_is, open_is, owner_is, stopped_is}
+use Rattle.check_protocol.proofs.ObservedLaws.{number_is, is_number}
 use Rattle.check_protocol.proofs.SettledLaws.{settled_is, is_settled_of, HasSettled, settles_is, settles_of}
 use Rattle.check_protocol.proofs.PlanLaws.{sound_is, is_sound_of, write_is, write_in_is, write_own, noted_says, says_noted, got_says, says_got, scan_says, says_scan, among_is}
 use Rattle.sdb_model.specs.Transactions.{is_done}

@@ -16,8 +16,8 @@ use Rattle.check_protocol.specs.Started.{commit_started_in, risked_in}
 use Rattle.check_protocol.specs.Observed.{observed, observes_bad_row}
 use Rattle.check_protocol.specs.Rules.{acts_well, stops_well, denies, may_answer, may_deny, is_known_committed, is_known_aborted, obeys_rules}
 use Rattle.check_protocol.proofs.Lists.{none_some, right, or_left, not_true, true_not, not_both}
-use Rattle.check_protocol.proofs.SaidLaws.{taken_is, asked_is, risked_is}
-use Rattle.check_protocol.proofs.ShownLaws.{number_is, is_number, bad_row_shown, shows_bad_row_of}
+use Rattle.check_protocol.proofs.StateLaws.{taken_is, asked_is, risked_is}
+use Rattle.check_protocol.proofs.ObservedLaws.{number_is, is_number, bad_row_shown, shows_bad_row_of}
 use Rattle.check_protocol.proofs.TakeLaws.{begin_is, is_begin, take_is, is_take}
 use Rattle.check_protocol.proofs.CallLaws.{prepare_is, is_prepare, check_is, is_check, decide_is, is_decide, abort_is, is_abort}
 use Rattle.check_protocol.proofs.KnownLaws.{known_is, is_known, aborted_is, is_aborted, lawful_sound, lawful_asked}

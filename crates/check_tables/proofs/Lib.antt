@@ -1,4 +1,4 @@
-mod Shown
+mod RowSteps
 mod Walks
 mod Filters
 pub mod Public

@@ -14,7 +14,7 @@ use Rattle.sdb_model.specs.Causes.{before}
 use Rattle.sdb_model.specs.ReadSet.{has_finished, has_read}
 use Rattle.sdb_model.specs.Transactions.{Executed, numbered, statements_by, with_answer}
 use Rattle.law_clients.specs.History.{executed_with_answer, executed_of_take}
-use Rattle.law_clients.proofs.Public.{answer_last, numbers_more, said_more}
+use Rattle.law_clients.proofs.Public.{answer_last, numbers_more, executed_more}
 use Rattle.law_answers.proofs.Lists.{each_in, each_kept, filter_same, kept_in}
 use Rattle.sdb_types.proofs.Public.{itself, length_more}
 
@@ -23,15 +23,15 @@ within_more n xs x l = let e : length (xs ++ x ∷ []) ≡ length xs + 1 = lengt
 
 ---- statements
 
-pub call_said : (c : ℕ) (events : List Event) (m : StoreCall) (a : Answer) (front : List Executed) (w : Executed) → statements_by c events ≡ front ++ w ∷ [] → statements_by c (events ++ event.Call c m.store m.request m.how m.reply (Some a) ∷ []) ≡ front ++ executed_with_answer events w a ∷ []
-call_said c events m a front w e =
-    said_more c events (event.Call c m.store m.request m.how m.reply (Some a))
+pub call_executed : (c : ℕ) (events : List Event) (m : StoreCall) (a : Answer) (front : List Executed) (w : Executed) → statements_by c events ≡ front ++ w ∷ [] → statements_by c (events ++ event.Call c m.store m.request m.how m.reply (Some a) ∷ []) ≡ front ++ executed_with_answer events w a ∷ []
+call_executed c events m a front w e =
+    executed_more c events (event.Call c m.store m.request m.how m.reply (Some a))
     ∙ ap (λ t. if t then with_answer (statements_by c events) (1 + length events) a else statements_by c events) (itself c)
     ∙ ap (λ ss. with_answer ss (1 + length events) a) e
     ∙ answer_last front w (1 + length events) a
 
-pub silent_said : (c : ℕ) (events : List Event) (store : Name) (q : Request) (how : How) (r : Reply) → statements_by c (events ++ event.Call c store q how r None ∷ []) ≡ statements_by c events
-silent_said c events store q how r = said_more c events (event.Call c store q how r None)
+pub silent_executed : (c : ℕ) (events : List Event) (store : Name) (q : Request) (how : How) (r : Reply) → statements_by c (events ++ event.Call c store q how r None ∷ []) ≡ statements_by c events
+silent_executed c events store q how r = executed_more c events (event.Call c store q how r None)
 
 ---- the events before a statement, and the clock
 

@@ -29,7 +29,7 @@ use Rattle.sdb_model.specs.Causes.{ConflictsAtCommit, IsUnmet, ScanObserves, pre
 use Rattle.sdb_model.specs.ReadSet.{KeyRead, ReadItem, SpanRead, version_read}
 use Rattle.sdb_model.specs.Requests.{any_of, records_put}
 use Rattle.sdb_model.specs.Transactions.{is_prepared_record, prepares}
-use Rattle.sdb_model.proofs.Public.{any_less, put_among, unmet_shown}
+use Rattle.sdb_model.proofs.Public.{any_less, put_among, unmet_observed}
 use Rattle.sdb_phases.specs.declared.step.DecidePhase.TheVariants as phase
 use Rattle.sdb_phases.specs.declared.step.DecideStep.TheVariants as decide
 use Rattle.sdb_phases.specs.declared.step.Outcome.TheVariants as outcome
@@ -204,7 +204,7 @@ module _ (p : Work) (read_set : List ReadItem) (w : WorkBy read_set p) (calls : 
         let asked : prepares_key p.id (prepared_record x p.id p.now).key m ≡ true =
         ap (λ (r : Request). any_of (λ y. is_prepared_record p.id y && same_key y.key (prepared_record x p.id p.now).key) (records_put r)) asks
         ∙ ap (λ b. b && same_key (prepared_record x p.id p.now).key (prepared_record x p.id p.now).key) (prepared_is p.id p.now x) ∙ same_key_self (prepared_record x p.id p.now).key in
-        inl ((noted_base.item, version_of x.base, noted_base.among, ap (version_read noted_base.item) key ∙ noted_base.as_read, k.1), inl (m, Contains-push calls m, asked, unmet_shown p.id (prepared_record x p.id p.now).key found m.request m.reply asked f))
+        inl ((noted_base.item, version_of x.base, noted_base.among, ap (version_read noted_base.item) key ∙ noted_base.as_read, k.1), inl (m, Contains-push calls m, asked, unmet_observed p.id (prepared_record x p.id p.now).key found m.request m.reply asked f))
 
     refused_at : (n : ℕ) (o : Option Request) (found : Option Record) → Some (prepare_of p.id p.now x) ≡ o → m.reply ≡ reply.NotMet found → CanAnswer m.request m.reply → ChecksBy read_set p more (after_prepare p i n (refused o found))
     refused_at n o found e f can = subst (λ (z : Option Request). ChecksBy read_set p more (after_prepare p i n (refused z found))) e (unmet_now found f can)

@@ -29,7 +29,7 @@ use Rattle.law_answers.proofs.Counts.{read_enough, read_so_far, sweep_enough, sw
 use Rattle.law_answers.proofs.CountsCommit.{commit_so_far}
 use Rattle.law_answers.proofs.CountsNotes.{commits_more, commits_still, paired_more, since_stay}
 use Rattle.law_answers.proofs.Lists.{each_in}
-use Rattle.law_answers.proofs.Noting.{noted_since, since_all, take_ends, take_open}
+use Rattle.law_answers.proofs.ReadSets.{noted_since, since_all, take_ends, take_open}
 use Rattle.sdb_types.specs.Replies.{is_fault}
 use Rattle.sdb_model.proofs.Public.{id_again}
 

@@ -30,7 +30,7 @@ use Rattle.sdb_vacuum.specs.Vacuum.{First, Malformed, Nothing, Tombstone, Unreso
 use Rattle.law_answers.specs.Counts.{ReadCounted, VacuumIsCounted, opens, rest_of_table}
 use Rattle.law_answers.proofs.ReadSteps.{IsDataTable, open_is}
 use Rattle.law_answers.proofs.Settling.{data_read}
-use Rattle.law_answers.proofs.SweepSteps.{SweepsData}
+use Rattle.law_answers.proofs.VacuumSteps.{SweepsData}
 
 ---- one call more
 
@@ -38,10 +38,10 @@ pub calls_more : (calls : List StoreCall) (m : StoreCall) → length (calls ++ m
 calls_more calls m = length-append calls (m ∷ [])
 
 -- what its rows count for
-abbrev shown_by : StoreCall → ℕ
-shown_by m = if reads_rows m then opens (records_read m.reply) else 0
+abbrev observed_in : StoreCall → ℕ
+observed_in m = if reads_rows m then opens (records_read m.reply) else 0
 
-pub opens_more : (calls : List StoreCall) (m : StoreCall) → length (unresolved_in (calls ++ m ∷ [])) ≡ length (unresolved_in calls) + shown_by m
+pub opens_more : (calls : List StoreCall) (m : StoreCall) → length (unresolved_in (calls ++ m ∷ [])) ≡ length (unresolved_in calls) + observed_in m
 opens_more calls m =
     ap (λ ms. length (filter is_unresolved (flat_map (λ x. records_read x.reply) ms))) (filter-append reads_rows calls (m ∷ []))
     ∙ ap (λ rs. length (filter is_unresolved rs)) (flat_map-append (λ (x : StoreCall). records_read x.reply) (filter reads_rows calls) (filter reads_rows (m ∷ [])))
@@ -54,7 +54,7 @@ opens_more calls m =
     last false = refl
 
 found_fewer : (calls : List StoreCall) (m : StoreCall) → length (unresolved_in calls) ≤ length (unresolved_in (calls ++ m ∷ []))
-found_fewer calls m = let e : length (unresolved_in (calls ++ m ∷ [])) ≡ length (unresolved_in calls) + shown_by m = opens_more calls m in omega arith
+found_fewer calls m = let e : length (unresolved_in (calls ++ m ∷ [])) ≡ length (unresolved_in calls) + observed_in m = opens_more calls m in omega arith
 
 removals_more : (calls : List StoreCall) (m : StoreCall) → removals_in (calls ++ m ∷ []) ≡ removals_in calls + cond (is_removal m.request) 1 0
 removals_more calls m = fold-append (λ a (x : StoreCall). a + cond (is_removal x.request) 1 0) 0 calls (m ∷ [])

@@ -29,7 +29,7 @@ use Rattle.law_answers.specs.Changes.{HasRead, IsRows, read_items_of_body}
 use Rattle.law_answers.specs.Invariant.{IsAnswered, begun_in, open_after}
 use Rattle.law_answers.proofs.Calls.{calls_stay}
 use Rattle.law_answers.proofs.Lists.{since_more, since_none, map_more}
-use Rattle.law_answers.proofs.Noting.{each_left, each_middle, notes_more, notes_stay, since_all}
+use Rattle.law_answers.proofs.ReadSets.{each_left, each_middle, notes_more, notes_stay, since_all}
 use Rattle.law_answers.proofs.ReadSteps.{IsDataTable}
 use Rattle.law_answers.proofs.Settling.{read_notes}
 

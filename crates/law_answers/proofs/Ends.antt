@@ -21,7 +21,7 @@ use Rattle.law_answers.specs.Commits.{EndsBy, HasFailed, IsGivenUp}
 use Rattle.law_answers.specs.Views.{GivesOwn}
 use Rattle.law_answers.specs.Invariant.{IsOpenAs}
 use Rattle.law_answers.specs.Conflicts.{ConflictBy}
-use Rattle.law_answers.proofs.Noting.{client_is, ordinal_is}
+use Rattle.law_answers.proofs.ReadSets.{client_is, ordinal_is}
 use Rattle.law_answers.proofs.Lists.{ends_last, since_more}
 use Rattle.law_answers.proofs.Rows.{bad_is_bad}
 use Rattle.law_clients.proofs.Public.{next_stage}

@@ -118,8 +118,8 @@ abbrev counts : ReadRecord → ℕ
 counts m = cond (is_some m.1) 1 0
 
 -- one note more
-last_noted : (read_set : List ReadRecord) (n : ReadRecord) → records_read_in (read_set ++ n ∷ []) ≤ records_read_in read_set + cond (is_some n.1) 1 0
-last_noted read_set n = subst (λ k. k ≤ records_read_in read_set + cond (is_some n.1) 1 0) (sym (sum_by-append counts read_set (n ∷ []) ∙ ap (λ k. records_read_in read_set + k) (sum_by-cons counts n []))) (only (records_read_in read_set) (cond (is_some n.1) 1 0))
+last_read : (read_set : List ReadRecord) (n : ReadRecord) → records_read_in (read_set ++ n ∷ []) ≤ records_read_in read_set + cond (is_some n.1) 1 0
+last_read read_set n = subst (λ k. k ≤ records_read_in read_set + cond (is_some n.1) 1 0) (sym (sum_by-append counts read_set (n ∷ []) ∙ ap (λ k. records_read_in read_set + k) (sum_by-cons counts n []))) (only (records_read_in read_set) (cond (is_some n.1) 1 0))
   where
     only : (a b : ℕ) → a + (b + 0) ≤ a + b
     only a b = omega arith
@@ -129,7 +129,7 @@ noted_one read_set r = by (is_key_read read_set r.key)
   where
     by : (b : Bool) → records_read_in (if b then read_set else read_set ++ (r.key, Some r) ∷ []) ≤ records_read_in read_set + 1
     by true = further (records_read_in read_set) 1
-    by false = last_noted read_set (r.key, Some r)
+    by false = last_read read_set (r.key, Some r)
 
 noted_all : (read_set : List ReadRecord) (images : List Record) → records_read_in (with_images read_set images) ≤ records_read_in read_set + length images
 noted_all read_set [] = further (records_read_in read_set) 0
@@ -152,7 +152,7 @@ filled_noting counted found t (access.Get key) images h = record { writes = h.wr
     few (r ∷ rs) = one_least (length rs)
 
     by : (rs : List Record) → records_read_in (t.seen.read_set ++ (key, slice_get rs 0) ∷ []) ≤ found + length rs
-    by rs = within (records_read_in (t.seen.read_set ++ (key, slice_get rs 0) ∷ [])) (records_read_in t.seen.read_set) (cond (is_some (slice_get rs 0)) 1 0) (length rs) found (last_noted t.seen.read_set (key, slice_get rs 0)) h.read_set (few rs)
+    by rs = within (records_read_in (t.seen.read_set ++ (key, slice_get rs 0) ∷ [])) (records_read_in t.seen.read_set) (cond (is_some (slice_get rs 0)) 1 0) (length rs) found (last_read t.seen.read_set (key, slice_get rs 0)) h.read_set (few rs)
 filled_noting counted found t (access.Scan span) images h = record { writes = h.writes; read_set = within (records_read_in (with_images t.seen.read_set images)) (records_read_in t.seen.read_set) (length images) found (noted_all t.seen.read_set images) h.read_set }
   where
     within : (a b x f : ℕ) → a ≤ b + x → b ≤ f → a ≤ f + x

@@ -22,7 +22,7 @@ use Rattle.law_answers.specs.Reads.{ReadsBy}
 use Rattle.law_answers.specs.Conflicts.{ChecksBy}
 use Rattle.law_answers.specs.Changes.{StageObserves, WorkBy, read_items_of_body}
 use Rattle.law_answers.proofs.Misfits.{fits_stay}
-use Rattle.law_answers.proofs.Noting.{body_answered, moved_still, noted_still, notes_stay, rest_all}
+use Rattle.law_answers.proofs.ReadSets.{body_answered, moved_still, noted_still, notes_stay, rest_all}
 use Rattle.law_answers.specs.Vacuums.{VacuumBy}
 use Rattle.law_answers.specs.Unfit.{AreStoredReplies}
 use Rattle.law_answers.specs.Invariant.{IsAnswered, IsDoing, IsReadSetOf, IsOpenAs, IsInVacuum, IsWaiting, Knows, DoingByHistory, ClientByHistory, open_after}
@@ -32,7 +32,7 @@ use Rattle.law_answers.proofs.Calls.{calls_open, end_waiting, later_same, none_m
 use Rattle.law_answers.proofs.Later.{answered_stay, waiting_stays}
 use Rattle.law_answers.proofs.Counting.{counts_stay}
 use Rattle.law_answers.proofs.Rolled.{rolls_stay}
-use Rattle.law_answers.proofs.ShowsTold.{shows_stay}
+use Rattle.law_answers.proofs.OwnRowsAnswered.{shows_stay}
 
 ---- one statement more
 

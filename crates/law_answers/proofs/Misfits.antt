@@ -23,7 +23,7 @@ use Rattle.law_answers.specs.Invariant.{IsAnswered}
 use Rattle.law_answers.specs.Unfit.{IsFitOrReadTxn, SeesFitOrRead, SeesFitOrReadIn, WasMisfit}
 use Rattle.law_answers.proofs.Calls.{calls_stay, read_stays}
 use Rattle.law_answers.proofs.Lists.{each_in, since_more}
-use Rattle.law_answers.proofs.Noting.{rest_all, since_all}
+use Rattle.law_answers.proofs.ReadSets.{rest_all, since_all}
 use Rattle.law_answers.proofs.Passing.{Grows, all_reached, in_grows, in_last, part_all, taken_before}
 
 ---- a transaction that sees what fits, or what was read

@@ -19,7 +19,7 @@ use Rattle.sdb_types.proofs.Public.{all_each as each_any, none_some}
 use Rattle.law_answers.specs.Filled.{rows_counted_by, records_found_by}
 use Rattle.law_answers.proofs.Calls.{calls_open, end_answered, end_waiting, made_more, read_stays}
 use Rattle.law_answers.proofs.Lists.{each_in, filter_same, since_more, since_none}
-use Rattle.law_answers.proofs.Noting.{client_is, each_last, ordinal_is, rest_all, since_all, take_open}
+use Rattle.law_answers.proofs.ReadSets.{client_is, each_last, ordinal_is, rest_all, since_all, take_open}
 use Rattle.law_clients.proofs.Public.{each_more}
 
 ---- statements are accepted one after the other

@@ -69,18 +69,18 @@ open_is r meta e = by (is_transactional r) (is_in state.Committed r.columns) (ch
 pub prepared_moment : (r : Record) (m : Meta) → checked r.columns ≡ Ok m → moment_in r.columns (codes "tx_prepared_at") ≡ Some m.prepared_at
 prepared_moment r m says = let t = accepted r.columns m says in t.1.says.prepared_at ∙ ap Some (final_moment r.columns t.0 m t.2)
 
-pub shown_read : (r : Reply) (x : Record) → Contains (records_read r) x → Contains (records_observed r) x
-shown_read (reply.Found None) x h = h
-shown_read (reply.Found (Some y)) x h = h
-shown_read (reply.Rows rows) x h = h
-shown_read reply.Applied x h = h
-shown_read (reply.NotMet None) x h = h
-shown_read (reply.NotMet (Some y)) x h = absurd (none h)
+pub observed_read : (r : Reply) (x : Record) → Contains (records_read r) x → Contains (records_observed r) x
+observed_read (reply.Found None) x h = h
+observed_read (reply.Found (Some y)) x h = h
+observed_read (reply.Rows rows) x h = h
+observed_read reply.Applied x h = h
+observed_read (reply.NotMet None) x h = h
+observed_read (reply.NotMet (Some y)) x h = absurd (none h)
   where
     none : Contains {X = Record} [] x → ⊥
     none k = absurd (omega (arith, k.1))
-shown_read reply.Fault x h = h
-shown_read reply.NoMemory x h = h
+observed_read reply.Fault x h = h
+observed_read reply.NoMemory x h = h
 
 pub rows_data : (span : Span) (rows : List Record) → IsDataTable span.table → are_rows_of span rows ≡ true → AllByRecursion (λ r. IsDataTable r.key.table) rows
 rows_data span rows is h = each rows (and_parts (rise rows) (list_all (λ (r : Record). in_span span r.key) rows) h).1
@@ -130,7 +130,7 @@ module _ (events : List Event) (calls : List StoreCall) (m : StoreCall) (older :
       by : (x : Kind) → kind_of r ≡ x → LedBy events more (settle (images ++ r ∷ []) left) → LedBy events more (settle_one x images r left (settle (images ++ r ∷ []) left))
       by Firm e rest = rest
       by (Open meta) e rest = record { found = f; is_open = e; phase = tt }
-      by Bad e rest = record { call = f.read; found = r; among = f.among; observed = shown_read f.read.reply r f.found.0; same = refl; bad = bad (bad_is r e); place = inr (rows_read f.read f.reads f.of_data, f.found.0) }
+      by Bad e rest = record { call = f.read; found = r; among = f.among; observed = observed_read f.read.reply r f.found.0; same = refl; bad = bad (bad_is r e); place = inr (rows_read f.read f.reads f.of_data, f.found.0) }
 
   ---- the rows
 

@@ -15,7 +15,7 @@ use Rattle.sdb_phases.specs.declared.step.RecoverPhase.TheVariants as phase
 use Rattle.sdb_phases.specs.Steps.{CanGet}
 use Rattle.sdb_phases.specs.CommitLaws.{is_malformed, holds_malformed}
 use Rattle.sdb_phases.specs.Recover.{Received, AreRecoverReplies, recover_after, recover_answer, recover_next, recover_pending, recover_request_at, row_followed, is_as_found}
-use Rattle.sdb_phases.proofs.Public.{by_row, by_steps_recover_rows as by_steps, recover_stands, row_malformed}
+use Rattle.sdb_phases.proofs.Public.{by_row, by_steps_recover_rows as by_steps, recover_invariant, row_malformed}
 use Rattle.sdb_phases.specs.RecoverLaws.{RecoverInvariant, found_pending, received_fault}
 use Rattle.sdb_types.proofs.Public.{clash}
 use Rattle.law_answers.specs.Ends.{is_served}
@@ -134,7 +134,7 @@ resolves_by rec meta [] small correct all = refl
 resolves_by rec meta (c ∷ past) small correct all =
     let (rest, valid) = fine_told meta (recover_pending rec meta past) c (calls_of_recovery rec meta past) correct.1 all in
     as_resolved rec meta (c ∷ past) (recover_answer rec meta (c ∷ past))
-    (resolves_step rec meta past (recover_after rec meta past) c.reply c.now (recover_stands rec meta past small correct.0) correct.1 valid.0 valid.1 (faultless rec meta past correct.0 rest))
+    (resolves_step rec meta past (recover_after rec meta past) c.reply c.now (recover_invariant rec meta past small correct.0) correct.1 valid.0 valid.1 (faultless rec meta past correct.0 rest))
 
 pub resolves_so : (rec : Record) (meta : Meta) (past : List Received) → RecoveryRunsWell rec meta past → Resolves rec meta past (recover_answer rec meta past)
 resolves_so rec meta past g = resolves_by rec meta past g.plays.small g.plays.correct g.valid
@@ -180,4 +180,4 @@ four_end rec meta past phase.Back (few, some, learned) four = absurd (omega arit
 four_end rec meta past phase.Ended s four = refl
 
 pub fourth_ends : (rec : Record) (meta : Meta) (past : List Received) → RecoveryRun rec meta past → length past ≡ 4 → recover_after rec meta past ≡ phase.Ended
-fourth_ends rec meta past plays four = four_end rec meta past (recover_after rec meta past) (recover_stands rec meta past plays.small plays.correct) four
+fourth_ends rec meta past plays four = four_end rec meta past (recover_after rec meta past) (recover_invariant rec meta past plays.small plays.correct) four

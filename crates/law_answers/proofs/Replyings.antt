@@ -51,18 +51,18 @@ use Rattle.law_answers.specs.Changes.{HasRead, IsChangedIn, ChangesAtScan, Chang
 use Rattle.law_answers.proofs.Conflicts.{checks_on, starved_checks}
 use Rattle.law_answers.specs.Reads.{IsBusyBy, LedBy, ReadsBy}
 use Rattle.law_answers.specs.Vacuums.{VacuumEndBy, VacuumBy}
-use Rattle.law_answers.proofs.SweepSteps.{IfMore, SweepLed, SweepsData, step_led, sweeps_of}
+use Rattle.law_answers.proofs.VacuumSteps.{IfMore, SweepLed, SweepsData, step_led, sweeps_of}
 use Rattle.law_answers.proofs.Moving.{IsTold, changed_scan}
-use Rattle.law_answers.proofs.Noting.{moved_all, moved_still, noted_more, noted_still, notes_more, notes_one, notes_stay, rest_all, seen_same, since_all, unmoved}
+use Rattle.law_answers.proofs.ReadSets.{moved_all, moved_still, noted_more, noted_still, notes_more, notes_one, notes_stay, rest_all, seen_same, since_all, unmoved}
 use Rattle.law_answers.proofs.Rows.{bad_unfinished}
 use Rattle.law_answers.proofs.Settling.{read_checks, read_noted}
-use Rattle.law_answers.proofs.Showing.{IsOpenAt, shows_on}
+use Rattle.law_answers.proofs.Observing.{IsOpenAt, observes_on}
 use Rattle.law_answers.proofs.Ends.{next_by, conflict_of, commit_is, outcome_caused, outcome_tells}
-use Rattle.law_answers.proofs.Calls.{before_same, call_said, calls_open, clock_more, end_answered, end_waiting, later_calls, later_more, later_within, made_at, own_made, silent_said, within_more, one_made}
+use Rattle.law_answers.proofs.Calls.{before_same, call_executed, calls_open, clock_more, end_answered, end_waiting, later_calls, later_more, later_within, made_at, own_made, silent_executed, within_more, one_made}
 use Rattle.law_answers.proofs.Filling.{filled_few, filled_found, filled_given, filled_idle, filled_more, filled_noting, filled_stays, images_few, passes_given}
 use Rattle.law_answers.proofs.Passing.{pass_now, least}
 use Rattle.law_answers.proofs.Misfits.{fits_idle, fits_more, fits_stay, meets_now}
-use Rattle.law_answers.proofs.Unfit.{given_fits, sees_read, shown_bad, was_misfit}
+use Rattle.law_answers.proofs.Unfit.{given_fits, sees_read, observed_bad, was_misfit}
 use Rattle.law_answers.proofs.Given.{IsMiddle, given_caused, given_middle, unfit_data}
 use Rattle.law_answers.proofs.Knowing.{after_end, after_more, after_plain, open_more}
 use Rattle.law_answers.proofs.Later.{answered_stay, waiting_stays}
@@ -73,11 +73,11 @@ use Rattle.law_answers.specs.Rolled.{DoingRolls, ReadRolls, RolledBut, VacuumRol
 use Rattle.law_answers.proofs.Rolled.{outcome_rows, reads_so_far, rolls_end, rolls_on, sweeps_so_far}
 use Rattle.law_answers.proofs.RolledSteps.{SweepsTo, read_rolls, sweep_rolls}
 use Rattle.law_answers.specs.Views.{IsViewOf, SeesOwn, SeesOwnIn, ViewBy}
-use Rattle.law_answers.proofs.ShowsTold.{ShowsNext, next_same, showing_stays, shows_end, shows_further}
-use Rattle.law_answers.proofs.ShowsTurn.{read_next}
+use Rattle.law_answers.proofs.OwnRowsAnswered.{ShowsNext, next_same, showing_stays, shows_end, shows_further}
+use Rattle.law_answers.proofs.OwnRowsTurn.{read_next}
 use Rattle.law_answers.proofs.Takings.{left_id, left_idle, left_reads, middle_ends}
 use Rattle.sdb_types.specs.Replies.{is_fault}
-use Rattle.sdb_client.proofs.Public.{noting_id, noting_idle}
+use Rattle.sdb_client.proofs.Public.{reading_keeps_id, reading_stays_idle}
 use Rattle.sdb_model.specs.Tables.{is_data}
 
 ---- the call
@@ -158,7 +158,7 @@ module _ (catalog : List Table) (events : List Event) (states : ℕ → ClientSt
     calls_done b = calls_open c (E (Some b)) (done b) (end_answered (E (Some b)) (done b) b refl ∙ sym (long (Some b))) ∙ later_one (Some b)
 
     said_done : (b : Answer) → statements_by c (E (Some b)) ≡ k.entries ++ done b ∷ []
-    said_done b = call_said c events made b k.entries w said_told
+    said_done b = call_executed c events made b k.entries w said_told
 
     begins_none : (b : Answer) → begins (done b) ≡ false
     begins_none b = ap (λ x. x && is_done (Some b)) waits.begin
@@ -220,8 +220,8 @@ module _ (catalog : List Table) (events : List Event) (states : ℕ → ClientSt
     goes_on d number begun vacuums agrees counts filled fits rolls sees = record {
       entries = k.entries;
       waiting = Some w;
-      same = silent_said c events y.store y.request y.how y.reply ∙ said_told;
-      answered = answered_stay catalog c events (call_event y None) k.entries (inl (silent_said c events y.store y.request y.how y.reply)) k.answered;
+      same = silent_executed c events y.store y.request y.how y.reply ∙ said_told;
+      answered = answered_stay catalog c events (call_event y None) k.entries (inl (silent_executed c events y.store y.request y.how y.reply)) k.answered;
       waits = subst (λ b. IsWaiting catalog (E None) c b w) (sym vacuums) (waiting_stays catalog c events (call_event y None) (is_some h.vacuum) w waits);
       moved = moved_still catalog events (call_event y None) c k.entries k.entries k.answered k.moved;
       number = number ∙ k.number;
@@ -243,7 +243,7 @@ module _ (catalog : List Table) (events : List Event) (states : ℕ → ClientSt
     bad_caused : (key : Key) → ObservesBad (ms ++ made ∷ []) key → IsBadRecord catalog (E (Some (answer.BadRecord key))) c (done (answer.BadRecord key)) key
     bad_caused key b =
         let g : ObservesBad (calls_of (E (Some (answer.BadRecord key))) c (done (answer.BadRecord key))) key = subst (λ cs. ObservesBad cs key) (sym (calls_done (answer.BadRecord key))) b in
-        inl (g.call, g.found, g.among, g.observed, g.same, shown_bad (calls_of (E (Some (answer.BadRecord key))) c (done (answer.BadRecord key))) key (calls_stored (answer.BadRecord key)) g)
+        inl (g.call, g.found, g.among, g.observed, g.same, observed_bad (calls_of (E (Some (answer.BadRecord key))) c (done (answer.BadRecord key))) key (calls_stored (answer.BadRecord key)) g)
 
     ---- where it is then
 
@@ -360,7 +360,7 @@ module _ (catalog : List Table) (events : List Event) (states : ℕ → ClientSt
         open_at (Ended s) i = absurd i
 
         observed : StageObserves x.request (ms ++ made ∷ []) (read_step x.stage y.now y.reply)
-        observed = shows_on ms y.now called.moment a asked.request (record { stage = x.stage; call = made; pending = subst (λ (q : Request). read_pending_at q x.stage ≡ Some made.request) (sym asked.request) pends }) (open_at x.stage is.stage) is.shows called.can
+        observed = observes_on ms y.now called.moment a asked.request (record { stage = x.stage; call = made; pending = subst (λ (q : Request). read_pending_at q x.stage ≡ Some made.request) (sym asked.request) pends }) (open_at x.stage is.stage) is.shows called.can
 
         leads : (result : Option Answer) → LedBy (E result) (ms ++ made ∷ []) (read_step x.stage y.now y.reply)
         leads result = reads_on (record { events = E result; calls = ms; call = made; now = y.now; later = older; clock = clock_now result }) a x.stage own (leaves x.stage read_in.stage) is.stage pends called.can
@@ -416,7 +416,7 @@ module _ (catalog : List Table) (events : List Event) (states : ℕ → ClientSt
         left_then images = given_left (seen_then images) (gives p a (seen_then images))
 
         left_rests : (images : List Record) → (left_then images).doing ≡ doing.Idle
-        left_rests images = left_idle (seen_then images) (gives p a (seen_then images)) (noting_idle t a images)
+        left_rests images = left_idle (seen_then images) (gives p a (seen_then images)) (reading_stays_idle t a images)
 
         finished : (images : List Record) → read_step x.stage y.now y.reply ≡ Ended (step.Images images) → has_read (E (Some (given_then images))) c (done (given_then images)) ≡ true
         finished images e =
@@ -486,7 +486,7 @@ module _ (catalog : List Table) (events : List Event) (states : ℕ → ClientSt
             let b : Answer = given_then images in
             let m = given_middle p (overlay a v.seen) v in
             answers b (holding h (left_then images)) (given_caused catalog (E (Some b)) c (done b) p (overlay a v.seen) v is.text asked.named asked.asked (open_before b) (misfit_caused images e) (passes_then images e b)) (stays b m.agrees) refl refl
-            (held b (left_then images) m is.inner.commit (left_id v (gives p a v) ∙ noting_id t a images) (left_rests images) (noted_then images e))
+            (held b (left_then images) m is.inner.commit (left_id v (gives p a v) ∙ reading_keeps_id t a images) (left_rests images) (noted_then images e))
             (no_fit b, told_noted images e)
             (filled_idle (E (Some b)) c h.begun k.entries (done b) stands_open.1.begin stands_open.1.body (left_then images) stands_open.1.since (left_rests images)
             (filled_given catalog events (call_event y (Some b)) c stands_open.1.body (done b) p (overlay a v.seen) v (records_found (ms ++ made ∷ [])) body_answered refl (finished images e) (found_done b) (filled_with images e)))

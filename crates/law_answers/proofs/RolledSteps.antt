@@ -36,7 +36,7 @@ use Rattle.law_answers.specs.Reads.{NextCall}
 use Rattle.law_answers.specs.Rolled.{HasLooked, IsDealtWith, IsRolledBy, PhaseLooks, ReadRolls, RolledBut, VacuumRolls}
 use Rattle.law_answers.proofs.ReadSteps.{open_is, prepared_moment}
 use Rattle.law_answers.proofs.Rows.{after_last, after_more, asks_row, shown_is}
-use Rattle.law_answers.proofs.Showing.{firm_is, look_rows, undo_unread, unread_rows}
+use Rattle.law_answers.proofs.Observing.{firm_is, look_rows, undo_unread, unread_rows}
 use Rattle.sdb_types.specs.Replies.{is_answered}
 use Rattle.sdb_txn.proofs.Public.{held_of}
 

@@ -32,7 +32,7 @@ use Rattle.sdb_client.specs.Step.{AnsweredAtOnce, AtOnce, Begins, ByCatalog, Com
 use Rattle.law_clients.specs.Invariant.{IsInner}
 use Rattle.sdb_snapshot.specs.Seen.{overlay, row_seen}
 use Rattle.law_clients.specs.States.{ClientState, IsReady}
-use Rattle.law_clients.proofs.Public.{access_table, by_memory, each_more, found_itself, given_finishes, inner_read, IsOnTable, literals_read, on_table, other_no_begin, other_no_commit, own_table, refused_no_commit, take_said}
+use Rattle.law_clients.proofs.Public.{access_table, by_memory, each_more, found_itself, given_finishes, inner_read, IsOnTable, literals_read, on_table, other_no_begin, other_no_commit, own_table, refused_no_commit, take_executed}
 use Rattle.sdb_client.proofs.Public.{names_table, text_of_step}
 use Rattle.law_clients.specs.History.{executed_of_take, waiting_of}
 use Rattle.sdb_types.proofs.Public.{by_test, clash, length_more, none_some, some_is}
@@ -42,7 +42,7 @@ use Rattle.law_answers.specs.Filled.{IsFilled, IsFilledBy, IsFilledIn, rows_coun
 use Rattle.law_answers.specs.Changes.{SeenBy, read_items_of_body}
 use Rattle.law_answers.proofs.Conflicts.{begins_checked}
 use Rattle.law_answers.proofs.Moving.{IsTaken, work_by}
-use Rattle.law_answers.proofs.Noting.{moved_all, moved_still, noted_more, noted_still, rest_all, since_all, unmoved}
+use Rattle.law_answers.proofs.ReadSets.{moved_all, moved_still, noted_more, noted_still, rest_all, since_all, unmoved}
 use Rattle.law_answers.specs.Invariant.{IsAnswered, IsDoing, CauseInvariant, IsGate, IsReadSetOf, IsOpenAs, Knows, SomeInVacuum, DoingByHistory, ClientByHistory, begun_in, open_after}
 use Rattle.law_answers.specs.Unfit.{IsFitOrReadTxn, SeesFitOrRead, SeesFitOrReadIn, AreStoredReplies}
 use Rattle.law_answers.proofs.Calls.{before_taken, calls_open, calls_within, end_answered, end_waiting, later_same, none_made}
@@ -63,9 +63,9 @@ use Rattle.law_answers.proofs.Rolled.{none_found, rolls_end, rolls_on}
 use Rattle.law_answers.proofs.CountsCommit.{commit_begins, commit_none}
 use Rattle.law_answers.proofs.CountsNotes.{idle_noted, none_called, noted_idle, since_same, since_stay}
 use Rattle.law_answers.specs.Views.{IsViewOf, SeesOwn, SeesOwnIn, ViewBy, GivesOwn}
-use Rattle.law_answers.proofs.Shows.{has_before}
-use Rattle.law_answers.proofs.ShowsGiven.{next_given}
-use Rattle.law_answers.proofs.ShowsTold.{ShowsNext, next_same, sees_then, showing_stays, shows_end, shows_further}
+use Rattle.law_answers.proofs.OwnRows.{has_before}
+use Rattle.law_answers.proofs.OwnRowsGiven.{next_given}
+use Rattle.law_answers.proofs.OwnRowsAnswered.{ShowsNext, next_same, sees_then, showing_stays, shows_end, shows_further}
 use Rattle.sdb_model.specs.Calls.{decision_learned}
 use Rattle.sdb_model.specs.Causes.{IsDecided}
 use Rattle.sdb_model.specs.ReadSet.{ReadItem, has_read, read_finished}
@@ -76,8 +76,8 @@ use Rattle.sdb_model.specs.Tables.{is_data}
 
 ---- texts
 
-pub no_sweep : (text : List ℕ) (st : Statement) → Reads text st → st ≢ statement.Vacuum → reads_vacuum text ≡ false
-no_sweep text st h other = by_test (reads_vacuum text) (λ t. absurd (other (one_statement text st statement.Vacuum h ((vacuum_read text).0 t)))) (λ t. t)
+pub never_vacuum : (text : List ℕ) (st : Statement) → Reads text st → st ≢ statement.Vacuum → reads_vacuum text ≡ false
+never_vacuum text st h other = by_test (reads_vacuum text) (λ t. absurd (other (one_statement text st statement.Vacuum h ((vacuum_read text).0 t)))) (λ t. t)
 
 -- an answer that is no Done begins nothing
 pub undone_begins : (s : Executed) (a : Answer) → s.answer ≡ Some a → is_done (Some a) ≡ false → begins s ≡ false
@@ -348,7 +348,7 @@ module _ (q : Taking) (events : List Event) (states : ℕ → ClientState) (ex :
   at_once b d agrees caused turned number begun small agreed as_read filled fits shows = record {
     entries = k.entries ++ one (Some b) ∷ [];
     waiting = None;
-    same = said_more ∙ sym (append-nil (k.entries ++ one (Some b) ∷ []));
+    same = executed_more ∙ sym (append-nil (k.entries ++ one (Some b) ∷ []));
     answered = each_more (IsAnswered q.catalog (E (Some b)) c) k.entries (one (Some b)) (answered_stay q.catalog c events (event.Take c text (Some b)) k.entries (inr (inl (one (Some b), said_now))) k.answered) (record {
       given = b;
       is = refl;
@@ -372,10 +372,10 @@ module _ (q : Taking) (events : List Event) (states : ℕ → ClientState) (ex :
   }
     where
       said_now : statements_by c (E (Some b)) ≡ statements_by c events ++ one (Some b) ∷ []
-      said_now = take_said c events text (Some b)
+      said_now = take_executed c events text (Some b)
 
-      said_more : statements_by c (E (Some b)) ≡ k.entries ++ one (Some b) ∷ []
-      said_more = said_now ∙ ap (λ ss. ss ++ one (Some b) ∷ []) said_told
+      executed_more : statements_by c (E (Some b)) ≡ k.entries ++ one (Some b) ∷ []
+      executed_more = said_now ∙ ap (λ ss. ss ++ one (Some b) ∷ []) said_told
 
   -- what its transaction has noted so far
   abbrev so_id : TxId
@@ -394,8 +394,8 @@ module _ (q : Taking) (events : List Event) (states : ℕ → ClientState) (ex :
   waits d turned no_begin vacuums open_txn number begun agreed begins_counted filled fits rolls sees = record {
     entries = k.entries;
     waiting = Some (one None);
-    same = take_said c events text None ∙ ap (λ ss. ss ++ one None ∷ []) said_told;
-    answered = answered_stay q.catalog c events (event.Take c text None) k.entries (inr (inl (one None, take_said c events text None))) k.answered;
+    same = take_executed c events text None ∙ ap (λ ss. ss ++ one None ∷ []) said_told;
+    answered = answered_stay q.catalog c events (event.Take c text None) k.entries (inr (inl (one None, take_executed c events text None))) k.answered;
     waits = record {
       unanswered = refl;
       accepted = within_now None;
@@ -499,7 +499,7 @@ module _ (q : Taking) (events : List Event) (states : ℕ → ClientState) (ex :
 
   -- what it said then
   said_then : (b : Answer) → statements_by c (E (Some b)) ≡ k.entries ++ one (Some b) ∷ []
-  said_then b = take_said c events text (Some b) ∙ ap (λ ss. ss ++ one (Some b) ∷ []) said_told
+  said_then b = take_executed c events text (Some b) ∙ ap (λ ss. ss ++ one (Some b) ∷ []) said_told
 
   stands_closed : h.txn ≡ None → open_after k.entries ≡ false
   stands_closed e = (subst (DoingByHistory events c h.begun k.entries k.waiting h.plan) e stands_free).1
@@ -572,7 +572,7 @@ module _ (q : Taking) (events : List Event) (states : ℕ → ClientState) (ex :
   commits_now : (t : TxnAt) → h.txn ≡ Some t → Reads text statement.Commit → Turned None → So None (holding h (committing t q.now))
   commits_now t e reads turned =
       let s = stands_open t e in
-      waits_open (holding h (committing t q.now)) turned (other_no_begin text statement.Commit reads (λ y. cc)) (no_sweep text statement.Commit reads (λ y. cc)) (ap is_some e) refl refl refl (
+      waits_open (holding h (committing t q.now)) turned (other_no_begin text statement.Commit reads (λ y. cc)) (never_vacuum text statement.Commit reads (λ y. cc)) (ap is_some e) refl refl refl (
         s.0,
         record { begin = s.1.begin; body = s.1.body; since = s.1.since; goes_on = s.1.goes_on; id = s.1.id; client = s.1.client },
         record { text = (commit_read text).1 reads; same = refl; moment = moment; stage = subst (λ ms. StageByCalls (work_of t q.now) ms (preparing (work_of t q.now) 0)) (sym (none_yet c events text None)) (begins_standing (work_of t q.now)) },
@@ -686,7 +686,7 @@ module _ (q : Taking) (events : List Event) (states : ℕ → ClientState) (ex :
 
     unknown : Turned None → So None (record h { txn = Some (reading t (access_of table st)); plan = Some (plan_of table st) })
     unknown turned =
-        waits_open (record h { txn = Some (reading t (access_of table st)); plan = Some (plan_of table st) }) turned inner.begin (no_sweep text st on.reads on_a_table.vacuum) (ap is_some e) refl refl refl (
+        waits_open (record h { txn = Some (reading t (access_of table st)); plan = Some (plan_of table st) }) turned inner.begin (never_vacuum text st on.reads on_a_table.vacuum) (ap is_some e) refl refl refl (
           s.0,
           record { begin = s.1.begin; body = s.1.body; since = s.1.since; goes_on = s.1.goes_on; id = s.1.id; client = s.1.client },
           record { text = on.reads; inner = inner; stage = tt; shows = none_yet c events text None },

@@ -40,7 +40,7 @@ use Rattle.sdb_snapshot.specs.Reads.{base_at}
 use Rattle.sdb_snapshot.specs.Rows.{tables_of_reads}
 use Rattle.sdb_snapshot.specs.Seen.{Seen, overlay, row_seen, row_with, tables_seen}
 use Rattle.sdb_snapshot.specs.Written.{with_writes}
-use Rattle.sdb_snapshot.proofs.Public.{get_seen, noted_images, own_is, value_last}
+use Rattle.sdb_snapshot.proofs.Public.{get_seen, read_images, own_is, value_last}
 use Rattle.sdb_txn.specs.Txn.{TxnAt}
 use Rattle.sdb_client.specs.Client.{given_answer, given_left, gives, with_rows_read, written}
 use Rattle.law_clients.specs.Fitting.{row_is_well_typed}
@@ -80,8 +80,8 @@ stored_one [] h = tt
 stored_one (r ∷ rs) h = let parts = and_parts (are_stored r.columns) (list_all (λ x. are_stored x.columns) rs) h in (parts.0, stored_one rs parts.1)
 
 -- one that calls show
-pub shown_bad : (calls : List StoreCall) (key : Key) → AreStoredReplies calls → (b : ObservesBad calls key) → IsBad b.found
-shown_bad calls key stored b = bad_stored b.found (each_in (λ (r : Record). are_stored r.columns ≡ true) (records_observed b.call.reply) b.found (stored_one (records_observed b.call.reply) (each_in (λ (m : StoreCall). is_stored_reply m.reply ≡ true) calls b.call stored b.among)) b.observed) b.bad
+pub observed_bad : (calls : List StoreCall) (key : Key) → AreStoredReplies calls → (b : ObservesBad calls key) → IsBad b.found
+observed_bad calls key stored b = bad_stored b.found (each_in (λ (r : Record). are_stored r.columns ≡ true) (records_observed b.call.reply) b.found (stored_one (records_observed b.call.reply) (each_in (λ (m : StoreCall). is_stored_reply m.reply ≡ true) calls b.call stored b.among)) b.observed) b.bad
 
 -- the row of a key with changes written is what they leave of the rows that were seen
 pub row_written : (s : Seen) (ks : List Keyed) (q : Key) → row_seen s.read_set (with_writes s.read_set s.writes ks) q ≡ get (with_changes (tables_seen s) ks) q
@@ -94,9 +94,9 @@ abbrev pub found_new : Access → List Record → Key → Option (Option Record)
 found_new (access.Get k) images q = cond (same_key q k) (Some (slice_get images 0)) None
 found_new (access.Scan span) images q = option_map Some (record_among images q)
 
-pub noted_now : (t : TxnAt) (a : Access) (images : List Record) (q : Key) → value_at (with_rows_read t a images).seen.read_set q ≡ or_else (value_at t.seen.read_set q) (found_new a images q)
-noted_now t (access.Get k) images q = value_last t.seen.read_set k (slice_get images 0) q
-noted_now t (access.Scan span) images q = noted_images t.seen.read_set images q
+pub rows_read_now : (t : TxnAt) (a : Access) (images : List Record) (q : Key) → value_at (with_rows_read t a images).seen.read_set q ≡ or_else (value_at t.seen.read_set q) (found_new a images q)
+rows_read_now t (access.Get k) images q = value_last t.seen.read_set k (slice_get images 0) q
+rows_read_now t (access.Scan span) images q = read_images t.seen.read_set images q
 
 pub same_writes : (t : TxnAt) (a : Access) (images : List Record) → (with_rows_read t a images).seen.writes ≡ t.seen.writes
 same_writes t (access.Get k) images = refl
@@ -110,7 +110,7 @@ row_new : (t : TxnAt) (a : Access) (images : List Record) (q : Key) (cs : List P
     → (row_seen t.seen.read_set t.seen.writes q ≡ Some cs) ⊎ ((b : Record) × (found_new a images q ≡ Some (Some b)) × (row_of_image b ≡ Some cs))
 row_new t a images q cs h =
     by (write_among t.seen.writes q) (value_at t.seen.read_set q) (found_new a images q)
-    (subst (λ x. row_with (write_among t.seen.writes q) (at_note x) ≡ Some cs) (noted_now t a images q) (subst (λ ws. row_with (write_among ws q) (base_at (with_rows_read t a images).seen.read_set q) ≡ Some cs) (same_writes t a images) h))
+    (subst (λ x. row_with (write_among t.seen.writes q) (at_note x) ≡ Some cs) (rows_read_now t a images q) (subst (λ ws. row_with (write_among ws q) (base_at (with_rows_read t a images).seen.read_set q) ≡ Some cs) (same_writes t a images) h))
   where
     by : (o : Option Write) (x y : Option (Option Record)) → row_with o (at_note (or_else x y)) ≡ Some cs → (row_with o (at_note x) ≡ Some cs) ⊎ ((b : Record) × (y ≡ Some (Some b)) × (row_of_image b ≡ Some cs))
     by (Some w) x y e = inl e

@@ -24,7 +24,7 @@ use Rattle.law_answers.specs.Turns.{CauseInvariantAtReply, CauseInvariantAtTake,
 use Rattle.sdb_snapshot.specs.Sets.{WereRead}
 use Rattle.law_clients.specs.States.{ClientState, IsReady, doing_of, system_of, with_state}
 use Rattle.law_clients.specs.History.{executed_of_take, waiting_of}
-use Rattle.law_clients.proofs.Public.{said_more}
+use Rattle.law_clients.proofs.Public.{executed_more}
 use Rattle.law_clients.specs.Machine.{abstract_read}
 use Rattle.law_clients.specs.System.{ClientOk, Open, Reading}
 use Rattle.law_clients.specs.Reads.{IsScanOk}
@@ -43,10 +43,10 @@ use Rattle.law_answers.specs.Changes.{IsChangedIn, ChangesAtScan, ChangesBy, rea
 use Rattle.law_answers.proofs.Counting.{calls_counted}
 use Rattle.law_answers.proofs.Lists.{each_in, since_more}
 use Rattle.law_answers.proofs.Moving.{IsTaken, IsTold}
-use Rattle.law_answers.proofs.Noting.{client_is, noted_since, ordinal_is, take_ends, take_open}
+use Rattle.law_answers.proofs.ReadSets.{client_is, noted_since, ordinal_is, take_ends, take_open}
 use Rattle.law_answers.proofs.Replyings.{replies_known}
 use Rattle.law_answers.proofs.Rolled.{records_rolled}
-use Rattle.law_answers.proofs.ShowsWhole.{rows_shown}
+use Rattle.law_answers.proofs.OwnRowsWhole.{rows_shown}
 use Rattle.law_answers.proofs.Takings.{takes_known}
 
 ---- who has stopped
@@ -68,11 +68,11 @@ apart_if : {A : Type 0} (c d : ℕ) (x y : A) → (c ≡ d → ⊥) → (if c ==
 apart_if c d x y n = ap (λ b. if b then x else y) (ne_eqb c d n)
 
 take_apart : (c d : ℕ) (events : List Event) (text : List ℕ) (a : Option Answer) → (d ≡ c → ⊥) → statements_by c (events ++ event.Take d text a ∷ []) ≡ statements_by c events
-take_apart c d events text a n = said_more c events (event.Take d text a) ∙ apart_if d c (statements_by c events ++ executed_of_take events text a ∷ []) (statements_by c events) n
+take_apart c d events text a n = executed_more c events (event.Take d text a) ∙ apart_if d c (statements_by c events ++ executed_of_take events text a ∷ []) (statements_by c events) n
 
 call_apart : (c d : ℕ) (events : List Event) (store : Name) (q : Request) (how : How) (r : Reply) (a : Option Answer) → (d ≡ c → ⊥) → statements_by c (events ++ event.Call d store q how r a ∷ []) ≡ statements_by c events
-call_apart c d events store q how r None n = said_more c events (event.Call d store q how r None)
-call_apart c d events store q how r (Some a) n = said_more c events (event.Call d store q how r (Some a)) ∙ apart_if d c (with_answer (statements_by c events) (1 + length events) a) (statements_by c events) n
+call_apart c d events store q how r None n = executed_more c events (event.Call d store q how r None)
+call_apart c d events store q how r (Some a) n = executed_more c events (event.Call d store q how r (Some a)) ∙ apart_if d c (with_answer (statements_by c events) (1 + length events) a) (statements_by c events) n
 
 call_unmade : (c d n : ℕ) (store : Name) (q : Request) (how : How) (r : Reply) (a : Option Answer) → (d ≡ c → ⊥) → made_by c (n, event.Call d store q how r a) ≡ None
 call_unmade c d n store q how r a apart = apart_if d c (Some (record { at = n; store = store; request = q; how = how; reply = r })) None apart
@@ -121,8 +121,8 @@ takes_all t events may ex = record {
 }
 
 -- what a client that reads has read says what is noted, and it had read what it wrote
-pub going_told : {catalog : List Table} {fit : Tables → Bool} {es : List Event} (states : ℕ → ClientState) (g : RunInvariant catalog fit es (system_of states) (doing_of states)) (c : ℕ) → (states c).stopped ≡ false → (states c).client.vacuum ≡ None → {t : TxnAt} {a : Access} {x : ReadAt} → (states c).client.txn ≡ Some t → t.doing ≡ doing.Read a x → IsTold t.seen × WereRead t.seen.read_set t.seen.writes
-going_told states g c goes_on free {t} {a} {x} some reads = (record { reads = ok.1.reads; found = ok.1.found; as_read = ok.1.as_read }, ok.1.kept.read)
+pub invariant_serial : {catalog : List Table} {fit : Tables → Bool} {es : List Event} (states : ℕ → ClientState) (g : RunInvariant catalog fit es (system_of states) (doing_of states)) (c : ℕ) → (states c).stopped ≡ false → (states c).client.vacuum ≡ None → {t : TxnAt} {a : Access} {x : ReadAt} → (states c).client.txn ≡ Some t → t.doing ≡ doing.Read a x → IsTold t.seen × WereRead t.seen.read_set t.seen.writes
+invariant_serial states g c goes_on free {t} {a} {x} some reads = (record { reads = ok.1.reads; found = ok.1.found; as_read = ok.1.as_read }, ok.1.kept.read)
   where
     here : (system_of states).clients c ≡ Reading t.id t.seen a (abstract_read x.stage)
     here = rw (goes_on, free, some, reads) refl
@@ -134,7 +134,7 @@ pub replies_all : (r : CallReplied) (events : List Event) → IsStoredReply r �
 replies_all r events may ex = record {
   clock = clock_more events (reply_event r) ∙ ex.clock;
   stopped = none_stops r.catalog events (reply_event r) r.states r.call.client r.after ex.stopped r.called.waiting.goes_on (λ n. refl);
-  each = moved_all r.catalog events (reply_event r) r.states r.call.client r.after ex.each (replies_known r.catalog events r.states r.call ex r.called may.about r.of_data.apart (λ free t a x some reads. going_told r.states may.reached.running r.call.client r.called.waiting.goes_on free some reads) r.of_data.is may.stored r.result r.after (step_of_reply (r.states r.call.client).client r.call.request r.call.reply r.call.now r.called.waiting.pending r.result r.after r.answered)) (λ n other. call_apart n r.call.client events r.call.store r.call.request r.call.how r.call.reply r.result other) (λ n other. call_unmade n r.call.client (1 + length events) r.call.store r.call.request r.call.how r.call.reply r.result other);
+  each = moved_all r.catalog events (reply_event r) r.states r.call.client r.after ex.each (replies_known r.catalog events r.states r.call ex r.called may.about r.of_data.apart (λ free t a x some reads. invariant_serial r.states may.reached.running r.call.client r.called.waiting.goes_on free some reads) r.of_data.is may.stored r.result r.after (step_of_reply (r.states r.call.client).client r.call.request r.call.reply r.call.now r.called.waiting.pending r.result r.after r.answered)) (λ n other. call_apart n r.call.client events r.call.store r.call.request r.call.how r.call.reply r.result other) (λ n other. call_unmade n r.call.client (1 + length events) r.call.store r.call.request r.call.how r.call.reply r.result other);
 }
 
 ---- the other events
@@ -161,7 +161,7 @@ stops_all catalog events now states c ex = record { clock = clock_more events (e
     each x = by (x == c) refl
       where
         still : (n : ℕ) → Knows catalog (events ++ event.Stop c ∷ []) n (states n).client
-        still n = knows_still catalog n events (event.Stop c) (states n).client (said_more n events (event.Stop c)) refl (ex.each n)
+        still n = knows_still catalog n events (event.Stop c) (states n).client (executed_more n events (event.Stop c)) refl (ex.each n)
 
         by : (b : Bool) → (x == c) ≡ b → Knows catalog (events ++ event.Stop c ∷ []) x (if b then record { client = (states c).client; stopped = true } else states x).client
         by true t = subst (λ n. Knows catalog (events ++ event.Stop c ∷ []) n (states c).client) (sym (eqb-true x c t)) (still c)
@@ -171,14 +171,14 @@ pub clock_all : (catalog : List Table) (events : List Event) (now moment : ℤ) 
 clock_all catalog events now moment states ex = record {
   clock = clock_more events (event.Clock moment);
   stopped = λ x. stopped_same x events (event.Clock moment) refl ∙ ex.stopped x;
-  each = stays_all catalog events (event.Clock moment) states (λ c. said_more c events (event.Clock moment)) (λ c. refl) ex.each;
+  each = stays_all catalog events (event.Clock moment) states (λ c. executed_more c events (event.Clock moment)) (λ c. refl) ex.each;
 }
 
 pub idles_all : (catalog : List Table) (events : List Event) (now : ℤ) (states : ℕ → ClientState) (c : ℕ) → CauseInvariant catalog events now states → CauseInvariant catalog (events ++ event.Idle c ∷ []) now states
 idles_all catalog events now states c ex = record {
   clock = clock_more events (event.Idle c) ∙ ex.clock;
   stopped = λ x. stopped_same x events (event.Idle c) refl ∙ ex.stopped x;
-  each = stays_all catalog events (event.Idle c) states (λ d. said_more d events (event.Idle c)) (λ d. refl) ex.each;
+  each = stays_all catalog events (event.Idle c) states (λ d. executed_more d events (event.Idle c)) (λ d. refl) ex.each;
 }
 
 pub starts_all : (catalog : List Table) (states : ℕ → ClientState) → ((c : ℕ) → states c ≡ record { client = nothing_done c; stopped = false }) → CauseInvariant catalog [] (pos 0) states
@@ -202,7 +202,7 @@ starts_all catalog states fresh = record {
     none_told c n begin body s tail a since goes is = absurd (let e : [] ≡ begin ∷ (body ++ s ∷ tail) = sym (none_begins n) ∙ since in cc)
 
     nothing : (c : ℕ) → Knows catalog [] c (nothing_done c)
-    nothing c = record { entries = []; waiting = None; same = refl; answered = tt; waits = tt; moved = tt; number = refl; begun = refl; small = positive; agrees = (refl, refl); counted = record { answered = tt; commits = no_commits c; paired = tt; as_read = tt; waits = tt }; filled = tt; fits = tt; stored = tt; rolled = record { answered = tt; waits = tt }; shows = record { told_own = none_told c; sees_own = tt } }
+    nothing c = record { entries = []; waiting = None; same = refl; answered = tt; waits = tt; moved = tt; number = refl; begun = refl; small = positive; agrees = (refl, refl); counted = record { answered = tt; commits = no_commits c; paired = tt; as_read = tt; waits = tt }; filled = tt; fits = tt; stored = tt; rolled = record { answered = tt; waits = tt }; shows = record { given_own = none_told c; sees_own = tt } }
 
 ---- what follows
 

@@ -95,7 +95,7 @@ IsViewOf catalog events c body t = SeesOwnIn catalog events c body t.seen t.doin
 
 -- What a client's statements were answered, and what its open transaction sees.
 pub record ViewBy (catalog : List Table) (events : List Event) (c : ℕ) (answered : List Executed) (h : ClientAt) : Type 0 where
-  pub told_own : AllGiveOwn catalog events c answered
+  pub given_own : AllGiveOwn catalog events c answered
   pub sees_own : IfSome h.txn (IsViewOf catalog events c (rest_of (from_begin h.begun answered)))
 
 ---- what follows of the events

@@ -17,7 +17,7 @@ use Rattle.law_clients.specs.Story.{Finished, Rest, Closed, Opened, Story, settl
 use Rattle.law_clients.specs.Filed.{number, IsFiledAt}
 use Rattle.law_clients.specs.History.{ClientHistory, waiting_of, all_statements, with_waiting, with_answered, begun_in, count_of, OpenFiled, IsOpened, HasBegun, HistoryInvariant, IsApart, KeepsTxns, IsAnswerOf, IsOrdinary, BeginsHold, EndsHold, IsCounted, NamesIt, executed_of_take, executed_with_answer}
 use Rattle.law_clients.proofs.Places.{story_same, story_kept}
-use Rattle.law_clients.proofs.Tellings.{said_more, now_more, SameOf, same_of, filed_later, begun_later, within, apart_at, opened_counts}
+use Rattle.law_clients.proofs.Histories.{executed_more, now_more, SameOf, same_of, filed_later, begun_later, within, apart_at, opened_counts}
 use Rattle.sdb_types.proofs.Public.{clash, itself, none_some, some_is}
 use Rattle.law_clients.proofs.Begin.{here_owner as begins_owner}
 
@@ -29,13 +29,13 @@ plus_one n = omega arith
 none_waits : (x : ClientHistory) → x.waiting ≡ None → all_statements x ≡ saids_of x.whole ++ statements_in x.rest
 none_waits x w = ap (λ o. (saids_of x.whole ++ statements_in x.rest) ++ waiting_of o) w ∙ append-nil (saids_of x.whole ++ statements_in x.rest)
 
-pub take_said : (c : ℕ) (events : List Event) (text : List ℕ) (a : Option Answer) → statements_by c (events ++ event.Take c text a ∷ []) ≡ statements_by c events ++ executed_of_take events text a ∷ []
-take_said c events text a = said_more c events (event.Take c text a) ∙ ap (λ t. if t then statements_by c events ++ executed_of_take events text a ∷ [] else statements_by c events) (itself c)
+pub take_executed : (c : ℕ) (events : List Event) (text : List ℕ) (a : Option Answer) → statements_by c (events ++ event.Take c text a ∷ []) ≡ statements_by c events ++ executed_of_take events text a ∷ []
+take_executed c events text a = executed_more c events (event.Take c text a) ∙ ap (λ t. if t then statements_by c events ++ executed_of_take events text a ∷ [] else statements_by c events) (itself c)
 
 -- A statement that is answered as it is accepted.
 pub said_at_once : (events : List Event) (past : List Labelled) (sys : SystemAt) (c : ℕ) (x : ClientHistory) (q : Labelled) (text : List ℕ) (a : Answer) → HistoryInvariant events past sys c x → x.waiting ≡ None → q.event ≡ event.Take c text (Some a) → IsAnswerOf events c x q (executed_of_take events text (Some a))
 said_at_once events past sys c x q text a story none e = record {
-  executed = ap (λ y. statements_by c (events ++ y ∷ [])) e ∙ take_said c events text (Some a) ∙ ap (λ ss. ss ++ executed_of_take events text (Some a) ∷ []) (story.same ∙ none_waits x none);
+  executed = ap (λ y. statements_by c (events ++ y ∷ [])) e ∙ take_executed c events text (Some a) ∙ ap (λ ss. ss ++ executed_of_take events text (Some a) ∷ []) (story.same ∙ none_waits x none);
   answer = ap answer_of e;
   answered = plus_one (length events);
   waited = λ w h. none_some w (sym none ∙ h);
@@ -50,7 +50,7 @@ answer_last (s ∷ t ∷ ss) w n a = ap (λ r. s ∷ r) (answer_last (t ∷ ss) 
 pub said_later : (events : List Event) (past : List Labelled) (sys : SystemAt) (c : ℕ) (x : ClientHistory) (q : Labelled) (w : Executed) (store : Name) (ask : Request) (how : How) (r : Reply) (a : Answer) → HistoryInvariant events past sys c x → x.waiting ≡ Some w → q.event ≡ event.Call c store ask how r (Some a) → IsAnswerOf events c x q (executed_with_answer events w a)
 said_later events past sys c x q w store ask how r a story waits e = record {
   executed = ap (λ y. statements_by c (events ++ y ∷ [])) e
-      ∙ said_more c events (event.Call c store ask how r (Some a))
+      ∙ executed_more c events (event.Call c store ask how r (Some a))
       ∙ ap (λ t. if t then with_answer (statements_by c events) (1 + length events) a else statements_by c events) (itself c)
       ∙ ap (λ ss. with_answer ss (1 + length events) a) (story.same ∙ ap (λ o. (saids_of x.whole ++ statements_in x.rest) ++ waiting_of o) waits)
       ∙ answer_last (saids_of x.whole ++ statements_in x.rest) w (1 + length events) a;
@@ -80,7 +80,7 @@ pub story_asks : (events : List Event) (past : List Labelled) (sys next : System
     → HistoryInvariant (events ++ q.event ∷ []) (q ∷ past) next c (with_waiting x (executed_of_take events text None))
 story_asks events past sys next c x q text story none e counts apart keeps = record {
   now = now_more events past q q.event counts story.now;
-  same = ap (λ y. statements_by c (events ++ y ∷ [])) e ∙ take_said c events text None ∙ ap (λ ss. ss ++ executed_of_take events text None ∷ []) (story.same ∙ none_waits x none);
+  same = ap (λ y. statements_by c (events ++ y ∷ [])) e ∙ take_executed c events text None ∙ ap (λ ss. ss ++ executed_of_take events text None ∷ []) (story.same ∙ none_waits x none);
   ok = story.ok;
   rest_ok = story.rest_ok;
   waits = refl;
@@ -95,7 +95,7 @@ story_asks events past sys next c x q text story none e counts apart keeps = rec
     opened (Closed gap) s ok = tt
     opened (Opened gap b body) s ok = ((s tt).begun ∙ ok.0, λ h. let w = ok.1 (sym (s tt).accepted ∙ h) in none_some w.0 (sym none ∙ w.1))
 
-takes_at : (h : ProtocolState) (t : ℕ) → (state_after_event h (Takes t)).taken_at t ≡ h.now + 1
+takes_at : (h : ProtocolState) (t : ℕ) → (state_after_event h (Takes t)).accepted_at t ≡ h.now + 1
 takes_at h t = grind (arith, nat_tests)
 
 -- The COMMIT of the open transaction is accepted and waits.
@@ -103,7 +103,7 @@ pub story_takes : (events : List Event) (past : List Labelled) (sys next : Syste
     → HistoryInvariant (events ++ event.Take c text None ∷ []) (labelled_with (Takes (number c (length x.whole))) (event.Take c text None) ∷ past) next c (with_waiting x (executed_of_take events text None))
 story_takes events past sys next c x text story none commit keeps = record {
   now = now_more events past q (event.Take c text None) tt story.now;
-  same = take_said c events text None ∙ ap (λ ss. ss ++ executed_of_take events text None ∷ []) (story.same ∙ none_waits x none);
+  same = take_executed c events text None ∙ ap (λ ss. ss ++ executed_of_take events text None ∷ []) (story.same ∙ none_waits x none);
   ok = story.ok;
   rest_ok = story.rest_ok;
   waits = refl;
@@ -295,7 +295,7 @@ story_ends events past sys next c x q s gap b body story e is plain over ends_it
     last : IsFiledAt (q ∷ past) t f
     last = record {
       begun = same.begun ∙ open_ok.0;
-      accepted = λ h. let w = open_ok.1 (sym same.accepted ∙ h) in (ap reads_commit (is.waited w.0 w.1).0 ∙ w.2, (is.waited w.0 w.1).1 ∙ w.3 ∙ sym same.taken_at);
+      accepted = λ h. let w = open_ok.1 (sym same.accepted ∙ h) in (ap reads_commit (is.waited w.0 w.1).0 ∙ w.2, (is.waited w.0 w.1).1 ∙ w.3 ∙ sym same.accepted_at);
       answered = λ a. inl (is.answer ∙ a, ends_it, is.answered ∙ sym (length_of events story.now));
       denied = λ a statements_by denial h. inl (ap (λ o. option_map_or is_denial o false) (is.answer ∙ statements_by) ∙ denial, ends_it, sym same.accepted ∙ h);
       unknown = names;

@@ -33,7 +33,7 @@ use Rattle.law_clients.proofs.InvariantTurns.{going_answers, going_asks, going_i
 use Rattle.law_clients.specs.Fitting.{tables_are_well_typed}
 use Rattle.law_clients.specs.States.{ClientState, IsReady, doing_of, abstract_txn, system_of}
 use Rattle.law_clients.proofs.RowsFit.{answers_on}
-use Rattle.law_clients.proofs.Taken.{IsSo, at_open, moved}
+use Rattle.law_clients.proofs.Accepted.{IsSo, at_open, moved}
 use Rattle.sdb_types.proofs.Public.{by_test}
 
 pub covered_is : (s : Seen) (a : Access) → is_covered s a ≡ true → IsCovered s a

@@ -189,8 +189,8 @@ pub begins : (plan : ℕ → Plan) → SystemOk plan [] idle
 begins plan = record { lawful = tt; each = λ c. refl; opened = λ u o. absurd (cc (o)); gate = λ c s. absurd (cc (s)); ids = λ t b. absurd (b refl) }
 
 -- A transaction whose COMMIT was accepted has begun.
-pub taken_begun : (plan : ℕ → Plan) (past : List Labelled) (sys : SystemAt) (t : ℕ) → SystemOk plan past sys → (protocol_state past).accepted t ≡ true → 0 < t % 2 ^ 64
-taken_begun plan past sys t ok accepted = by (zero_or ((protocol_state past).begun t))
+pub accepted_begun : (plan : ℕ → Plan) (past : List Labelled) (sys : SystemAt) (t : ℕ) → SystemOk plan past sys → (protocol_state past).accepted t ≡ true → 0 < t % 2 ^ 64
+accepted_begun plan past sys t ok accepted = by (zero_or ((protocol_state past).begun t))
   where
     clash : true ≡ false → ⊥
     clash e = cc

@@ -18,7 +18,7 @@ use Rattle.sdb_model.specs.Serial.{run_body}
 use Rattle.sdb_snapshot.specs.Reads.{ReadRecord, record_read_at, base_at, is_key_read, reads_of}
 use Rattle.sdb_snapshot.specs.Rows.{row_found, with_own}
 use Rattle.sdb_snapshot.specs.Seen.{Seen, Agrees, nothing, overlay, with_written, same_span, is_scanned}
-use Rattle.sdb_snapshot.proofs.Public.{Keeps, noted_images, or_there, overlay_is, own_is, value_last}
+use Rattle.sdb_snapshot.proofs.Public.{Keeps, read_images, or_there, overlay_is, own_is, value_last}
 use Rattle.law_protocol.specs.Lawful.{Labelled}
 use Rattle.law_clients.specs.Reads.{IsFoundOk, IsReadOk, SeenOk, first_image, is_found, was_found, was_read, with_read}
 use Rattle.law_clients.proofs.Lists.{each_both}
@@ -136,7 +136,7 @@ agreed_before past s (access.Get k) images d seen all =
       scans = scans_back s (with_read s (access.Get k) images) d s.scans keeps seen.found all.scans;
     }
 agreed_before past s (access.Scan span) images d seen all =
-    let keeps : Keeps s.read_set (with_read s (access.Scan span) images).read_set = λ q h. noted_images s.read_set images q ∙ or_there (value_at s.read_set q) _ h in
+    let keeps : Keeps s.read_set (with_read s (access.Scan span) images).read_set = λ q h. read_images s.read_set images q ∙ or_there (value_at s.read_set q) _ h in
     record {
       reads = reads_back s (with_read s (access.Scan span) images) d s.reads keeps seen.reads all.reads;
       scans = scans_back s (with_read s (access.Scan span) images) d s.scans keeps seen.found (front_of (ScanAgrees (with_read s (access.Scan span) images) d) s.scans (record { span = span; found = reads_of images } ∷ []) all.scans);

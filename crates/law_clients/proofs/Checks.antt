@@ -15,7 +15,7 @@ use Rattle.sdb_model.specs.ReadSet.{finds_transactional, reads_rows}
 use Rattle.sdb_txn.specs.Read.{request_of}
 use Rattle.law_clients.specs.ReadAt.{ReadAt, Asking, Resolving, Done, Failed, read_pending}
 use Rattle.law_clients.specs.Calls.{AsksRows, HasUnchecked, IsMade, ReadMade, RowsMade, rows_left, rows_of}
-use Rattle.law_clients.proofs.Noting.{none_kept, reads_it}
+use Rattle.law_clients.proofs.ReadRecords.{none_kept, reads_it}
 use Rattle.sdb_types.proofs.Public.{and_false}
 
 -- each record that a call found passes

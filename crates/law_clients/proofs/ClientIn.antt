@@ -20,7 +20,7 @@ use Rattle.sdb_client.specs.Step.{AnsweredAtOnce, Begins, CommitEnds, CommitGoes
 use Rattle.law_clients.specs.About.{AreRecordsIn, IsDoingIn, IsListed, IsOfTables, IsReadIn, IsSeenIn, IsStageIn, IsVacuumIn, IsWorkIn}
 use Rattle.law_clients.proofs.InTables.{GivesIn, IsPlayed, access_in, access_table, commit_played, get_in, gives_in, read_played, scan_in, stepped_in, swept_in, sweep_played, written_in}
 use Rattle.law_clients.proofs.RowsFit.{found_itself}
-use Rattle.law_clients.proofs.Sweeps.{begun_in}
+use Rattle.law_clients.proofs.Vacuums.{begun_in}
 
 module _ (catalog : List Table) where
   abbrev Of : Client → Type 0

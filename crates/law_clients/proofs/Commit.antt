@@ -258,14 +258,14 @@ begins_none (laws.Removes k t) f = tt
 begins_none (laws.Ends t) f = tt
 begins_none (laws.Stops c) f = tt
 
-pub no_sweep : (p : Work) (n : Stage) → is_in_vacuum (commit_left p n) ≡ false
-no_sweep p (Over a) = refl
-no_sweep p (Preparing i) = refl
-no_sweep p (Checking i) = refl
-no_sweep p (Deciding d) = refl
-no_sweep p (Forward i) = refl
-no_sweep p (Stopping a m) = refl
-no_sweep p (Back a m i) = refl
+pub never_vacuum : (p : Work) (n : Stage) → is_in_vacuum (commit_left p n) ≡ false
+never_vacuum p (Over a) = refl
+never_vacuum p (Preparing i) = refl
+never_vacuum p (Checking i) = refl
+never_vacuum p (Deciding d) = refl
+never_vacuum p (Forward i) = refl
+never_vacuum p (Stopping a m) = refl
+never_vacuum p (Back a m i) = refl
 
 pub no_start : {A : Type 0} (x : ClientAt) → is_in_vacuum x ≡ false → is_in_vacuum x ≡ true → A
 no_start x f t = absurd (clash (sym f ∙ t))
@@ -294,7 +294,7 @@ commit_turn plan past sys x p s agrees reply = turned plan past sys c (commit_la
   denies = λ a executed denial. denied_at plan past p e (action_of p s r) (step p s r) a now executed denial;
   knows = left_ok plan past c p s e (action_of p s r) (step p s r) here (call_role p s r) now;
   holds = λ u h o. holds u (subst (λ y. Has y u) agrees.at h) (step p s r) o;
-  starts = no_start (commit_left p (step p s r)) (no_sweep p (step p s r));
+  starts = no_start (commit_left p (step p s r)) (never_vacuum p (step p s r));
 })
   where
     c : ℕ

@@ -11,7 +11,7 @@ use Rattle.sdb_types.specs.declared.record.Request.TheVariants as ask
 use Rattle.sdb_types.specs.declared.record.Reply.TheVariants as reply
 use Rattle.sdb_types.specs.Contents.{holds}
 use Rattle.sdb_types.specs.Order.{same_key}
-use Rattle.sdb_types.proofs.Public.{none_some, same_key_tells, some_is}
+use Rattle.sdb_types.proofs.Public.{none_some, same_key_decides, some_is}
 use Rattle.sdb_record.specs.declared.coordinator.Decision.TheVariants as decision
 use Rattle.sdb_record.specs.Coordinator.{coordinator_key_of, coordinator_row_of, decision_in}
 use Rattle.sdb_record.specs.Meta.{is_transactional}
@@ -277,13 +277,13 @@ module _ (catalog : List Table) (apart : IsApart catalog) (start : Database) (so
       }
         where
           apart_from : (j : ℕ) (v : Write) → i + 1 ≤ j → slice_get p.writes j ≡ Some v → same_key v.key w.key ≡ false
-          apart_from j v more there_at = elim (same_key_tells v.key w.key) [
+          apart_from j v more there_at = elim (same_key_decides v.key w.key) [
             | inl e ↦ absurd (once_apart p.writes i j w v work.once (omega arith) at there_at e.1)
             | inr n ↦ n.0
           ]
 
           below : (j : ℕ) (v : Write) → j < i → slice_get p.writes j ≡ Some v → same_key v.key w.key ≡ false
-          below j v less there_at = elim (same_key_tells v.key w.key) [
+          below j v less there_at = elim (same_key_decides v.key w.key) [
             | inl e ↦ absurd (once_apart p.writes j i v w work.once less there_at at (sym e.1))
             | inr n ↦ n.0
           ]

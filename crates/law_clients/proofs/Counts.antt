@@ -3,7 +3,7 @@ use Rattle.std.proofs.Common.{◌≡◌, ℕ, ℤ, Bool, true, false, List, [], 
 use Rattle.std.specs.Prelude.{◌&&◌, ◌||◌, if◌then◌else◌, length, is_some, not}
 use Rattle.law_clients.specs.Types.{Key, Table}
 use Rattle.sdb_types.specs.Order.{same_key}
-use Rattle.sdb_types.proofs.Public.{and_first, and_second, false_true, same_key_of, same_key_self, same_key_tells}
+use Rattle.sdb_types.proofs.Public.{and_first, and_second, false_true, same_key_of, same_key_self, same_key_decides}
 use Rattle.sdb_model.specs.declared.answer.Answer.TheVariants as answer
 use Rattle.sdb_model.specs.Exec.{Tables}
 use Rattle.law_clients.specs.Database.{Database, is_listed}
@@ -26,7 +26,7 @@ without_shorter k (j ∷ js) e = by (same_key k j) refl (without_shorter k js)
 -- the other keys stay
 without_other : (k : Key) (js : List Key) (q : Key) → same_key q k ≡ false → is_among (without k js) q ≡ is_among js q
 without_other k [] q n = refl
-without_other k (j ∷ js) q n = elim (same_key_tells k j) [
+without_other k (j ∷ js) q n = elim (same_key_decides k j) [
   | inl e ↦ ap (λ x. is_among (if x then js else j ∷ without k js) q) e.0 ∙ sym (ap (λ x. x || is_among js q) (ap (same_key q) (sym e.1) ∙ n))
   | inr f ↦ ap (λ x. is_among (if x then js else j ∷ without k js) q) f.0 ∙ ap (λ x. same_key q j || x) (without_other k js q n)
 ]
@@ -34,13 +34,13 @@ without_other k (j ∷ js) q n = elim (same_key_tells k j) [
 -- and the key is gone
 without_gone : (k : Key) (js : List Key) → AreOnce js → is_among (without k js) k ≡ false
 without_gone k [] once = refl
-without_gone k (j ∷ js) once = elim (same_key_tells k j) [
+without_gone k (j ∷ js) once = elim (same_key_decides k j) [
   | inl e ↦ ap (λ x. is_among (if x then js else j ∷ without k js) k) e.0 ∙ ap (is_among js) e.1 ∙ once.0
   | inr f ↦ ap (λ x. is_among (if x then js else j ∷ without k js) k) f.0 ∙ ap (λ x. x || is_among (without k js) k) f.0 ∙ without_gone k js once.1
 ]
 
 other_way : (k j : Key) → same_key k j ≡ false → same_key j k ≡ false
-other_way k j n = elim (same_key_tells j k) [ inl e ↦ false_true (sym n ∙ same_key_of k j (sym e.1)) | inr f ↦ f.0 ]
+other_way k j n = elim (same_key_decides j k) [ inl e ↦ false_true (sym n ∙ same_key_of k j (sym e.1)) | inr f ↦ f.0 ]
 
 without_once : (k : Key) (js : List Key) → AreOnce js → AreOnce (without k js)
 without_once k [] once = tt
@@ -60,7 +60,7 @@ same_length (k ∷ ks) js a b same = ap suc (same_length ks (without k js) a.1 (
     there = sym (same k) ∙ ap (λ x. x || is_among ks k) (same_key_self k)
 
     rest : (q : Key) → is_among ks q ≡ is_among (without k js) q
-    rest q = elim (same_key_tells q k) [
+    rest q = elim (same_key_decides q k) [
       | inl e ↦ ap (is_among ks) e.1 ∙ a.0 ∙ sym (ap (is_among (without k js)) e.1 ∙ without_gone k js b)
       | inr n ↦ sym (ap (λ x. x || is_among ks q) n.0) ∙ same q ∙ sym (without_other k js q n.0)
     ]

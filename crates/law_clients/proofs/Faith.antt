@@ -30,7 +30,7 @@ beyond (f ∷ fs) (suc k) e = more (length fs) k (beyond fs k e)
 -- what is wanted of one transaction
 pub record Says (events : List Event) (past : List Labelled) (t : ℕ) : Type 0 where
   pub begun : (n : ℕ) → begun events (id t) ≡ Some n → (protocol_state past).begun t ≡ n
-  pub accepted : (protocol_state past).accepted t ≡ true → option_map_or (λ s. s.accepted) (commit_of events (id t)) 0 ≡ (protocol_state past).taken_at t
+  pub accepted : (protocol_state past).accepted t ≡ true → option_map_or (λ s. s.accepted) (commit_of events (id t)) 0 ≡ (protocol_state past).accepted_at t
   pub answered : (s : Executed) → commit_of events (id t) ≡ Some s → s.answer ≡ Some answer.Committed → IsAnsweredCommittedAt past t s.reached
   pub denied : (s : Executed) (a : Answer) → commit_of events (id t) ≡ Some s → s.answer ≡ Some a → is_denial a ≡ true → (protocol_state past).accepted t ≡ true → IsDenied past t
   pub unknown : (s : Executed) (u : TxId) → commit_of events (id t) ≡ Some s → s.answer ≡ Some (answer.Unknown u) → u ≡ id t

@@ -514,8 +514,8 @@ module _ (q : Taking) (c : ClientAt) (idle : IsIdle c) (result : Option Answer) 
   text_taken (Ok st) h = statement_taken st h
   text_taken (Err r) h = turned (answer.Refused r) refl h
 
-pub faults_taken : (t : ExecutedBy) → IsOfFault t.result t.after → ⊥
-faults_taken t come =
+pub faults_at_takes : (t : ExecutedBy) → IsOfFault t.result t.after → ⊥
+faults_at_takes t come =
     by_memory t.result
     (λ e. at_once t.taking t.before t.idle t.result t.after come answer.NoMemory refl e)
     (λ n. text_taken t.taking t.before t.idle t.result t.after come t.says (t.took n))

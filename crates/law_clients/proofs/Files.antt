@@ -15,15 +15,15 @@ use Rattle.law_clients.specs.Filed.{number, IsFiledAt, IsOpenAt, Filed}
 use Rattle.law_clients.specs.History.{ClientHistory, waiting_of, begun_in, count_of, OpenFiled, HistoryInvariant, nothing_yet}
 use Rattle.law_clients.proofs.Places.{story_same, story_kept}
 use Rattle.law_protocol.specs.Faithful.{IsFaithful}
-use Rattle.law_clients.proofs.Begin.{taken_begun}
+use Rattle.law_clients.proofs.Begin.{accepted_begun}
 use Rattle.law_clients.proofs.Faith.{beyond, faithful}
-use Rattle.law_clients.proofs.Tellings.{within}
+use Rattle.law_clients.proofs.Histories.{within}
 use Rattle.law_clients.proofs.Answered.{commit_ends, one_more}
 use Rattle.sdb_types.proofs.Public.{clash, false_by as not_true, none_some, some_is}
 
 -- a COMMIT was accepted of none but those that have begun
-pub taken_counts : (plan : ℕ → Plan) (past : List Labelled) (sys : SystemAt) (c k : ℕ) → SystemOk plan past sys → suc k < 2 ^ 64 → (protocol_state past).accepted (number c k) ≡ true → k < sys.begun c
-taken_counts plan past sys c k ok small accepted = by ((protocol_state past).begun (number c k)) refl
+pub accepted_counts : (plan : ℕ → Plan) (past : List Labelled) (sys : SystemAt) (c k : ℕ) → SystemOk plan past sys → suc k < 2 ^ 64 → (protocol_state past).accepted (number c k) ≡ true → k < sys.begun c
+accepted_counts plan past sys c k ok small accepted = by ((protocol_state past).begun (number c k)) refl
   where
     half : (c n : ℕ) → n < 2 ^ 64 → (c * 2 ^ 64 + n) / 2 ^ 64 ≡ c
     half c n l = omega arith
@@ -53,7 +53,7 @@ files plan events past sys c x t ok story same is count filed opened = record {
   filed = filed;
   fits = λ k f e. let h = story.alive k (subst (λ n. k < n) count (within t.whole k f (begun_in t.rest) e)) in (h.client, h.ordinal);
   is_open = opened;
-  none = λ k small none accepted. by k t.rest refl none accepted (subst (λ n. k < n) (story.count ∙ sym count) (taken_counts plan past sys c k ok small accepted));
+  none = λ k small none accepted. by k t.rest refl none accepted (subst (λ n. k < n) (story.count ∙ sym count) (accepted_counts plan past sys c k ok small accepted));
 }
   where
     by : (k : ℕ) (r : Rest) → t.rest ≡ r → txn_ended_at t.whole k ≡ None → (protocol_state past).accepted (number c k) ≡ true → k < length t.whole + begun_in t.rest → ⊥
@@ -180,7 +180,7 @@ story_starts c = record {
 
 -- No transaction of ordinal 0 was accepted.
 no_first : (plan : ℕ → Plan) (past : List Labelled) (sys : SystemAt) (c : ℕ) → SystemOk plan past sys → (protocol_state past).accepted (c * 2 ^ 64) ≡ true → ⊥
-no_first plan past sys c ok accepted = never (c * 2 ^ 64 % 2 ^ 64) (rest c) (taken_begun plan past sys (c * 2 ^ 64) ok accepted)
+no_first plan past sys c ok accepted = never (c * 2 ^ 64 % 2 ^ 64) (rest c) (accepted_begun plan past sys (c * 2 ^ 64) ok accepted)
   where
     rest : (c : ℕ) → c * 2 ^ 64 % 2 ^ 64 ≡ 0
     rest c = omega arith

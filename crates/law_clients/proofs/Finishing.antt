@@ -30,7 +30,7 @@ use Rattle.sdb_txn.specs.Txn.{TxnAt}
 use Rattle.sdb_client.specs.Client.{given_answer, too_many}
 use Rattle.law_clients.specs.Machine.{abstract_read}
 use Rattle.law_clients.specs.Calls.{HasUnchecked, rows_left}
-use Rattle.law_clients.proofs.Noting.{coordinators}
+use Rattle.law_clients.proofs.ReadRecords.{coordinators}
 
 ---- rows that don't fit
 

@@ -17,7 +17,7 @@ use Rattle.sdb_client.specs.Client.{ClientAt as Client, IsIdle, Taking, after, g
 use Rattle.sdb_client.specs.Step.{AnsweredAtOnce, Begins, CommitEnds, CommitGoesOn, CommitStarts, IsReadAt, IsVacuumAt, LosesCommit, ReadConflicts, ReadEnds, ReadFails, ReadGoesOn, ReadKnown, ReadStarts, Receives, RollsBack, Step, Takes, VacuumEnds, VacuumGoesOn, VacuumStarts}
 use Rattle.law_clients.specs.About.{AreListed, IsListed}
 use Rattle.law_clients.specs.States.{IsAfter, IsAskedBy, IsFitted, IsFittedBy, IsUsing, IsUsingTxn}
-use Rattle.law_clients.proofs.Sweeps.{begun_in, step_are}
+use Rattle.law_clients.proofs.Vacuums.{begun_in, step_are}
 use Rattle.law_clients.proofs.Whole.{by_memory, literals_read}
 use Rattle.sdb_client.proofs.Public.{given_idle as left_idle}
 

@@ -14,7 +14,7 @@ use Rattle.law_clients.specs.System.{ClientAt, SystemAt, SystemOk, Has, IsBy, wi
 use Rattle.law_clients.specs.Left.{Execution, BodyIsExecuted}
 use Rattle.law_clients.specs.BodyTexts.{BodyExecuted}
 use Rattle.law_clients.specs.History.{ClientHistory, HistoryInvariant, HistoryStep, AllStories, OthersUnchanged, IsCounted, with_history}
-use Rattle.law_clients.proofs.Tellings.{story_stays, others_apart, others_silent}
+use Rattle.law_clients.proofs.Histories.{story_stays, others_apart, others_silent}
 use Rattle.std.proofs.lemmas.List.{append-nil as no_more}
 use Rattle.sdb_types.proofs.Public.{map_last as told_more}
 

@@ -34,12 +34,12 @@ use Rattle.law_clients.specs.Story.{Closed, MayCome, Opened}
 use Rattle.law_clients.specs.History.{IsOpened, IsOrdinary, IsAnswerOf, KeepsTxns, HistoryInvariant, ClientHistory, executed_with_answer, with_answered}
 use Rattle.law_clients.proofs.Answered.{commit_ends, said_later, story_answers, story_ends, telling_of}
 use Rattle.law_clients.proofs.Bodies.{body_read}
-use Rattle.law_clients.proofs.Tellings.{story_stays}
+use Rattle.law_clients.proofs.Histories.{story_stays}
 use Rattle.law_clients.proofs.HistoryTurns.{client_stands}
 use Rattle.law_clients.specs.Invariant.{ClientInvariant, EndedOk, IsOpenOf, InsideOk, IsClosed, IsCommitting, RunInvariant, IsInner, IsMild, IsRunning, IsWaiting, OpenedOk, RanOk}
 use Rattle.law_clients.specs.Progress.{FinishesOn}
 use Rattle.law_clients.specs.ReadSets.{IsMadeSince}
-use Rattle.law_clients.proofs.Goings.{turned}
+use Rattle.law_clients.proofs.OtherClients.{turned}
 use Rattle.law_clients.proofs.Mild.{mild_begins, nothing_mild, rows_finish, rows_mild, uncommitted}
 use Rattle.law_clients.proofs.InvariantReads.{commit_made, made_reads, noted_elsewhere, noted_gap, noted_over, notes_read, notes_unfinished, since_read}
 use Rattle.law_clients.proofs.InvariantTurns as one

@@ -23,7 +23,7 @@ use Rattle.law_protocol.specs.Trace.{IsTraced, closing, history}
 use Rattle.law_protocol.proofs.Public.{recorded_row, traced_of, whole_of}
 use Rattle.law_clients.specs.Progress.{Ending, outcome_with}
 use Rattle.law_clients.specs.System.{SystemAt}
-use Rattle.law_clients.proofs.Begin.{taken_begun}
+use Rattle.law_clients.proofs.Begin.{accepted_begun}
 use Rattle.law_clients.specs.Reads.{work_of}
 use Rattle.law_clients.specs.Filed.{number}
 use Rattle.law_clients.specs.Left.{Execution, ExecutionOk, BodyIsExecuted, ordinals_of}
@@ -33,7 +33,7 @@ use Rattle.law_clients.specs.History.{OpenFiled, HistoryInvariant, ClientHistory
 use Rattle.law_clients.proofs.Answered.{commit_ends}
 use Rattle.law_clients.proofs.Bodily.{noted_whole}
 use Rattle.law_clients.proofs.Faith.{beyond}
-use Rattle.law_clients.proofs.Files.{taken_counts}
+use Rattle.law_clients.proofs.Files.{accepted_counts}
 use Rattle.law_clients.proofs.Notes.{are_noted}
 use Rattle.law_clients.proofs.Places.{finished_inside, story_kept, story_same}
 use Rattle.law_clients.proofs.Run.{linked_run}
@@ -83,7 +83,7 @@ module _ (catalog : List Table) (fit : Tables → Bool) (events : List Event) (s
       story = g.stories c
 
       counts : k < count_of x
-      counts = subst (λ m. k < m) story.count (taken_counts g.plan g.past sys c k g.system small accepted)
+      counts = subst (λ m. k < m) story.count (accepted_counts g.plan g.past sys c k g.system small accepted)
 
       answered : (whole : List Finished) (more : List Executed) → statements_by c events ≡ saids_of whole ++ more → statements_by (client_of (id (number c k))) events ≡ saids_of whole ++ more
       answered whole more e = ap (λ d. statements_by d events) client ∙ e
@@ -97,7 +97,7 @@ module _ (catalog : List Table) (fit : Tables → Bool) (events : List Event) (s
         as_read = subst (λ d. ReadSetInside events d inside (g.ran c k).seen) (sym client) (subst (λ j. ReadSetInside events c inside (g.ran c j).seen) (sym at) (subst (λ r. ReadSetOpened events c r (g.ran c (length x.whole))) e (g.as_read c).opened));
       }
         where
-          w : (w : Executed) × (x.waiting ≡ Some w) × (reads_commit w.text ≡ true) × (w.accepted ≡ (protocol_state g.past).taken_at (number c (length x.whole)))
+          w : (w : Executed) × (x.waiting ≡ Some w) × (reads_commit w.text ≡ true) × (w.accepted ≡ (protocol_state g.past).accepted_at (number c (length x.whole)))
           w = (subst (OpenFiled g.past c x) e story.opened).1 (ap (λ j. (protocol_state g.past).accepted (number c j)) (sym at) ∙ accepted)
 
           f : Finished
@@ -151,7 +151,7 @@ module _ (catalog : List Table) (fit : Tables → Bool) (events : List Event) (s
       positive m l = omega (arith, l)
 
       ordinal : t % 2 ^ 64 ≡ suc (t % 2 ^ 64 - 1)
-      ordinal = positive (t % 2 ^ 64) (taken_begun g.plan g.past sys t g.system accepted)
+      ordinal = positive (t % 2 ^ 64) (accepted_begun g.plan g.past sys t g.system accepted)
 
       small : (m : ℕ) → m % 2 ^ 64 < 2 ^ 64
       small m = omega arith
@@ -165,8 +165,8 @@ module _ (catalog : List Table) (fit : Tables → Bool) (events : List Event) (s
       (record { seen = r.ok.inside.seen; planned = r.ok.planned accepted; body = r.ok.inside.body }, body_is_said events t r.inside (ran_of t) (ap (filter is_effective) r.body) r.ok.inside.executed)
 
   -- the plans' notes are what the statements noted
-  pub going_is_noted : AreReadSets g.plan events g.past
-  going_is_noted = are_noted g.plan events g.past (λ t. work_of (id t) (ran_of t).now (ran_of t).seen) (λ t accepted.
+  pub invariant_is_read_sets : AreReadSets g.plan events g.past
+  invariant_is_read_sets = are_noted g.plan events g.past (λ t. work_of (id t) (ran_of t).now (ran_of t).seen) (λ t accepted.
       let r = ran_at t accepted in
       noted_whole g.plan events (client_of (id t)) t (ran_of t).now r.inside (ran_of t).seen refl r.body (r.ok.planned accepted) r.as_read.as_read)
 
@@ -190,8 +190,8 @@ length_ids [] = refl
 length_ids (p ∷ ps) = ap suc (length_ids ps)
 
 -- Events of any number of clients that are tied to them, follow a script's moves, and agree with stores whose tables began empty, are a run.
-pub going_is_run : (script : Script) (e : Ending script) → (tables : List TableDump) × IsRun script e.opening e.closing (outcome_with e tables)
-going_is_run script e =
+pub invariant_is_run : (script : Script) (e : Ending script) → (tables : List TableDump) × IsRun script e.opening e.closing (outcome_with e tables)
+invariant_is_run script e =
     subst (λ es. (tables : List TableDump) × IsRun script e.opening e.closing (record { events = es; order = e.order; tables = tables })) (sym e.running.same)
     (linked_run script e.fit e.running.labelled e.opening e.closing e.moments e.order e.fitting linked (subst (Follows script) e.running.same e.follows) (subst (λ es. IsTrace script.places es e.opening e.moments e.closing) e.running.same e.traced) e.empty (subst (λ es. IsOrder script.places es e.closing e.order) e.running.same e.ordered) e.ids)
   where

@@ -27,7 +27,7 @@ use Rattle.law_clients.specs.Left.{Execution}
 use Rattle.law_clients.specs.Story.{Closed, Finished, Opened, Rest, Story, txn_ended_at, settle}
 use Rattle.law_clients.specs.History.{IsApart, IsCounted, IsNotOf, IsOpened, ClientHistory, with_answered}
 use Rattle.law_clients.proofs.Answered.{one_more, telling_of}
-use Rattle.law_clients.proofs.Tellings.{within}
+use Rattle.law_clients.proofs.Histories.{within}
 use Rattle.law_clients.specs.Invariant.{ClientInvariant, EndedOk, IsOpenOf, IsClosed, RanOk}
 use Rattle.sdb_types.proofs.Public.{itself as same_number}
 

@@ -34,7 +34,7 @@ use Rattle.law_clients.specs.Story.{Closed, Finished, Opened, Rest, txn_ended_at
 use Rattle.law_clients.specs.History.{ClientHistory, with_answered}
 use Rattle.law_clients.proofs.Answered.{one_more}
 use Rattle.law_clients.proofs.Bodily.{noted_later, noted_nothing, noted_read, noted_starts}
-use Rattle.law_clients.proofs.Noting.{read_made, read_notes}
+use Rattle.law_clients.proofs.ReadRecords.{read_made, read_notes}
 use Rattle.law_clients.proofs.Since.{calls_just, since_more, since_now}
 use Rattle.law_clients.specs.Invariant.{IsSilent}
 use Rattle.law_clients.specs.Progress.{FinishesOn}

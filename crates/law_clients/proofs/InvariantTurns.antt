@@ -34,11 +34,11 @@ use Rattle.law_clients.specs.Story.{Closed, Finished, MayCome, Opened, Rest, txn
 use Rattle.law_clients.specs.History.{BeginsHold, IsOpened, IsOrdinary, IsAnswerOf, KeepsTxns, HistoryInvariant, ClientHistory, HistoryStep, begun_in, executed_of_take, with_answered, with_waiting}
 use Rattle.law_clients.proofs.Answered.{commit_ends, said_at_once, story_answers, story_asks, story_begins, story_ends, story_takes, telling_of}
 use Rattle.law_clients.proofs.Bodies.{body_begins, body_step}
-use Rattle.law_clients.proofs.Tellings.{SameOf, said_more, same_of, story_stays}
+use Rattle.law_clients.proofs.Histories.{SameOf, executed_more, same_of, story_stays}
 use Rattle.law_clients.proofs.HistoryTurns.{begun_stands, client_stands, said_nothing_more, said_one_more}
 use Rattle.law_clients.specs.Invariant.{ClientInvariant, EndedOk, IsOpenOf, IsClosed, RunInvariant, IsInner, IsMild, LeavesAtOnce, OpenedOk, RanOk}
 use Rattle.law_clients.specs.ReadSets.{ReadSetsOfClient, ReadSetInside, IsMadeSince}
-use Rattle.law_clients.proofs.Goings.{ended_later, inside_later, kept_apart, turned}
+use Rattle.law_clients.proofs.OtherClients.{ended_later, inside_later, kept_apart, turned}
 use Rattle.law_clients.proofs.Mild.{effective_by, mild_begins, mild_ends, nothing_mild, rows_mild, uncommitted}
 use Rattle.law_clients.proofs.InvariantReads.{IsJustAnswered, at_once, commit_made, inside_nothing, inside_read, none_since, noted_asks, noted_begun, noted_commits, noted_elsewhere, noted_gap, noted_inside, noted_over, open_noted, written_noted}
 use Rattle.law_clients.proofs.Small.{numbers_same, less_apart, nothing_ran, begins_untaken}
@@ -164,7 +164,7 @@ module _ (catalog : List Table) (fit : Tables → Bool) (events : List Event) (s
   ---- a client's event that says nothing more
 
   pub silent : (e : Event) → ((ss : List Executed) (k : ℕ) → Rattle.sdb_model.specs.Transactions.statements_after c ss (k, e) ≡ ss) → statements_by c (events ++ e ∷ []) ≡ statements_by c events
-  silent e f = said_more c events e ∙ f (statements_by c events) (1 + length events)
+  silent e f = executed_more c events e ∙ f (statements_by c events) (1 + length events)
 
   ---- COMMIT is accepted
 
@@ -567,8 +567,8 @@ module _ (catalog : List Table) (fit : Tables → Bool) (events : List Event) (s
 
   ---- a client stops
 
-  pub going_stops : RunInvariant catalog fit (events ++ event.Stop c ∷ []) (with_client sys c Stopped) (at doing c None)
-  going_stops = turned catalog fit events sys (with_client sys c Stopped) doing g c None q (record {
+  pub invariant_stops : RunInvariant catalog fit (events ++ event.Stop c ∷ []) (with_client sys c Stopped) (at doing c None)
+  invariant_stops = turned catalog fit events sys (with_client sys c Stopped) doing g c None q (record {
     plan = g.plan;
     x = x;
     ran = ran;

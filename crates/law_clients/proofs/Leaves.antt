@@ -8,7 +8,7 @@ use Rattle.sdb_types.specs.declared.record.State.TheVariants as state
 use Rattle.sdb_types.specs.declared.value.Value.TheVariants as value
 use Rattle.sdb_types.specs.Columns.{column}
 use Rattle.sdb_types.specs.Contents.{tx_id}
-use Rattle.sdb_types.proofs.Public.{false_true, none_some, same_key_tells, some_is}
+use Rattle.sdb_types.proofs.Public.{false_true, none_some, same_key_decides, some_is}
 use Rattle.sdb_record.specs.declared.coordinator.Decision.TheVariants as decision
 use Rattle.sdb_record.specs.Among.{is_written, write_among}
 use Rattle.sdb_record.specs.Coordinator.{coordinator_key_of, id_of_key, is_coordinator_table}
@@ -29,7 +29,7 @@ use Rattle.law_clients.specs.Tombstones.{HasWritten, SameImages}
 use Rattle.law_clients.proofs.Recovers.{row_at}
 use Rattle.law_clients.proofs.Resolves.{firm_image, under_aborted}
 use Rattle.law_clients.proofs.Writes.{found_at, based_at}
-use Rattle.law_clients.proofs.Noting.{coordinators}
+use Rattle.law_clients.proofs.ReadRecords.{coordinators}
 
 -- an id that a record has is of 128 bits
 id_fits : (o : Option Value) (id : TxId) → id_in_value o ≡ Some id → id.0 < 2 ^ 128
@@ -61,7 +61,7 @@ module _ (catalog : List Table) (apart : IsApart catalog) (start : Database) (so
 
   -- the decision on another transaction is as it was
   decided_other : (id : TxId) → id.0 < 2 ^ 128 → id ≢ p.id → decided_in h id ≡ decided_in start id
-  decided_other id fits differs = ap row_at (others (coordinator_key_of id) (row_unwritten (coordinator_key_of id) (coordinators id)) (elim (same_key_tells (coordinator_key_of id) row) [
+  decided_other id fits differs = ap row_at (others (coordinator_key_of id) (row_unwritten (coordinator_key_of id) (coordinators id)) (elim (same_key_decides (coordinator_key_of id) row) [
     | inl e ↦ absurd (differs (some_is id p.id (sym (key-of-id id fits) ∙ ap id_of_key e.1 ∙ key-of-id p.id work.fits)))
     | inr n ↦ n.0
   ]))
@@ -71,7 +71,7 @@ module _ (catalog : List Table) (apart : IsApart catalog) (start : Database) (so
   image_kept k listed free = images (start k) refl
     where
       present : h k ≡ start k
-      present = others k free (elim (same_key_tells k row) [
+      present = others k free (elim (same_key_decides k row) [
         | inl e ↦ false_true (sym (apart k listed) ∙ ap (λ x. is_coordinator_table x.table) e.1 ∙ coordinators p.id)
         | inr n ↦ n.0
       ])

@@ -24,7 +24,7 @@ mod Bodies
 mod Steps
 mod Wholes
 mod Ends
-mod Tellings
+mod Histories
 mod Answered
 mod Files
 mod HistoryTurns
@@ -32,11 +32,11 @@ mod Run
 mod Notes
 mod Agree
 mod Meanings
-mod Noting
+mod ReadRecords
 mod Checks
 mod Since
 mod Bodily
-mod Goings
+mod OtherClients
 mod InvariantOwn
 mod InvariantReads
 mod Mild
@@ -46,7 +46,7 @@ mod InvariantCalls
 mod Rests
 mod InvariantEnds
 mod RowsFit
-mod Taken
+mod Accepted
 mod Finishing
 mod Asked
 mod Whole
@@ -54,7 +54,7 @@ mod Fitted
 mod ReadReplies
 mod Replied
 mod InTables
-mod Sweeps
+mod Vacuums
 mod ClientIn
 mod SessionCalls
 mod Resolves
@@ -65,7 +65,7 @@ mod Commits
 mod SessionReading
 mod SessionSeen
 mod Leaves
-mod SessionSweeps
+mod SessionVacuums
 mod Keys
 mod Works
 mod SessionStatements

@@ -13,7 +13,7 @@ use Rattle.std.proofs.lemmas.Bool.{and_parts}
 use Rattle.std.proofs.lemmas.List.Folds.{list_any-append}
 use Rattle.sdb_types.specs.Contents.{Contents, record_at}
 use Rattle.sdb_types.specs.Order.{key_cmp, same_key}
-use Rattle.sdb_types.proofs.Public.{and_both, false_true, key_total, less_of, none_some, or_second, same_key_is, same_key_tells, some_is, truth as true_from_T}
+use Rattle.sdb_types.proofs.Public.{and_both, false_true, key_total, less_of, none_some, or_second, same_key_is, same_key_decides, some_is, truth as true_from_T}
 use Rattle.sdb_model.specs.Access.{with_row}
 use Rattle.sdb_model.specs.Events.{StoreContents, contents_under, stored_at, store_of}
 use Rattle.sdb_model.specs.Exec.{Tables, row_of_entry}
@@ -58,7 +58,7 @@ module _ (f : Key → Option (List Pair)) where
 
   get_rows : (ks : List Key) (q : Key) → get (rows_of ks) q ≡ (if list_any (same_key q) ks then f q else None)
   get_rows [] q = get-empty key_cmp q
-  get_rows (k ∷ ks) q = get-with_row (rows_of ks) k (f k) q ∙ by (same_key_tells q k) (get_rows ks q)
+  get_rows (k ∷ ks) q = get-with_row (rows_of ks) k (f k) q ∙ by (same_key_decides q k) (get_rows ks q)
     where
       by : ((same_key q k ≡ true) × (q ≡ k)) ⊎ ((same_key q k ≡ false) × (q ≢ k)) → get (rows_of ks) q ≡ (if list_any (same_key q) ks then f q else None) → cond (is_eq (key_cmp q k)) (f k) (get (rows_of ks) q) ≡ (if same_key q k || list_any (same_key q) ks then f q else None)
       by (inl e) rest = ap (λ b. cond b (f k) (get (rows_of ks) q)) (sym (same_key_is q k) ∙ e.0) ∙ ap f (sym e.1) ∙ sym (ap (λ b. if b || list_any (same_key q) ks then f q else None) e.0)

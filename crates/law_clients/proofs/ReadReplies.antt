@@ -27,7 +27,7 @@ use Rattle.sdb_vacuum.specs.Vacuum.{VacuumAt}
 use Rattle.sdb_client.specs.Client.{ClientAt as Client, IsAsRead, gives, given_answer, given_left, holding, with_rows_read, pending_by, pending_of, resting, too_many, written}
 use Rattle.sdb_client.specs.Inside.{IsValidPlan, IsKeyRead, MayWrite}
 use Rattle.sdb_client.specs.Step.{Fails, HasFaulted, IsBusy, IsMalformed, OutOfMemory}
-use Rattle.sdb_client.proofs.Public.{last_noted, may_write}
+use Rattle.sdb_client.proofs.Public.{last_read, may_write}
 use Rattle.law_clients.specs.Machine.{abstract_read}
 use Rattle.law_clients.specs.Reads.{MayRecord, first_image, with_read}
 use Rattle.law_clients.specs.ReadAt.{Done}
@@ -50,7 +50,7 @@ use Rattle.law_clients.specs.Fitting.{tables_are_well_typed}
 use Rattle.law_clients.specs.States.{ClientState, IsAskedBy, IsCalled, doing_of, abstract_txn, system_of}
 use Rattle.law_clients.proofs.RowsFit.{answers_on}
 use Rattle.law_clients.proofs.Asked.{from_rows}
-use Rattle.law_clients.proofs.Taken.{IsSo, moved}
+use Rattle.law_clients.proofs.Accepted.{IsSo, moved}
 use Rattle.sdb_types.proofs.Public.{by_test, itself as same_number, none_some, or_second as or_so}
 
 ---- what a read has noted
@@ -60,11 +60,11 @@ scanned_last [] x = ap (λ (b : Bool). b || false) ((span_is_exact x.span x.span
 scanned_last (y ∷ xs) x = or_so (same_span y.span x.span) (is_scanned (xs ++ x ∷ []) x.span) (scanned_last xs x)
 
 pub covered_now : (s : Seen) (a : Access) (images : List Record) → IsCovered (with_read s a images) a
-covered_now s (access.Get key) images = last_noted s.read_set key (first_image images)
+covered_now s (access.Get key) images = last_read s.read_set key (first_image images)
 covered_now s (access.Scan span) images = scanned_last s.scans (record { span = span; found = reads_of images })
 
 pub key_read_now : (s : Seen) (a : Access) (images : List Record) → IsKeyRead (with_read s a images).read_set a
-key_read_now s (access.Get key) images = last_noted s.read_set key (first_image images)
+key_read_now s (access.Get key) images = last_read s.read_set key (first_image images)
 key_read_now s (access.Scan span) images = tt
 
 may_note : (t : TxnAt) (a : Access) (images : List Record) → IsAsRead t a images → MayRecord t.seen a images

@@ -8,7 +8,7 @@ use Rattle.sdb_types.specs.declared.record.Condition.TheVariants as condition
 use Rattle.sdb_types.specs.declared.record.Reply.TheVariants as reply
 use Rattle.sdb_types.specs.Contents.{holds}
 use Rattle.sdb_types.specs.Order.{same_key}
-use Rattle.sdb_types.proofs.Public.{clash, false_true, same_key_self, same_key_tells}
+use Rattle.sdb_types.proofs.Public.{clash, false_true, same_key_self, same_key_decides}
 use Rattle.sdb_record.specs.declared.coordinator.Decision.TheVariants as decision
 use Rattle.sdb_record.specs.Coordinator.{coordinator_key_of, coordinator_row_of, decision_in, is_coordinator_table}
 use Rattle.sdb_record.specs.Meta.{is_moment, is_unresolved}
@@ -26,7 +26,7 @@ use Rattle.law_clients.specs.Database.{Called, Done, Found, Got, Database, IsWit
 use Rattle.law_clients.specs.OnlyResolves.{IsApart, OnlyResolves, IsSound}
 use Rattle.law_clients.specs.Recovers.{RecoveryLeadsTo, IsAborted, PhaseAlone, RecoverAlone, RecoversTo}
 use Rattle.law_clients.proofs.Resolves.{abort_settles, roll_settles, settles_refl, under_aborted}
-use Rattle.law_clients.proofs.Noting.{coordinators}
+use Rattle.law_clients.proofs.ReadRecords.{coordinators}
 
 -- databases that are the same at each key are one
 pub one_database : (g h : Database) → Same g h → g ≡ h
@@ -88,7 +88,7 @@ module _ (catalog : List Table) (apart : IsApart catalog) (rec : Record) (meta :
 
   -- a key of a table is none of the coordinator's
   apart_from_row : (k : Key) → is_listed catalog k ≡ true → same_key k key ≡ false
-  apart_from_row k listed = elim (same_key_tells k key) [
+  apart_from_row k listed = elim (same_key_decides k key) [
     | inl e ↦ false_true (sym (apart k listed) ∙ ap (λ x. is_coordinator_table x.table) e.1 ∙ coordinators meta.id)
     | inr n ↦ n.0
   ]
@@ -129,7 +129,7 @@ module _ (catalog : List Table) (apart : IsApart catalog) (rec : Record) (meta :
   rolled : (g h : Database) (p : RecoverPhase) (d : Decided) (n : RecoverPhase × RecoverStep) → RecoverAlone catalog g rec meta p → decided_in g meta.id ≡ Some d → IsWith rec.key (image_under rec (Some d)) g h → RecoveryLeadsTo catalog h rec meta moment n → RecoversTo catalog g h rec meta moment n
   rolled g h p d n alone decided now leads_to = record {
     resolves = roll_settles catalog g h rec d apart alone.listed alone.present (of g p alone).held (ap (λ o. option_and_then (decided_in g) o) (of g p alone).writer ∙ decided) now;
-    others = λ k listed other. elim (same_key_tells k rec.key) [ inl e ↦ absurd (other e.1) | inr f ↦ now k ∙ ap (λ b. if b then image_under rec (Some d) else g k) f.0 ];
+    others = λ k listed other. elim (same_key_decides k rec.key) [ inl e ↦ absurd (other e.1) | inr f ↦ now k ∙ ap (λ b. if b then image_under rec (Some d) else g k) f.0 ];
     leads_to = leads_to;
   }
 

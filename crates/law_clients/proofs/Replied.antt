@@ -35,8 +35,8 @@ use Rattle.law_clients.specs.States.{ClientState, IsAskedBy, IsCalled, doing_of,
 use Rattle.law_clients.specs.Vacuums.{abstract_vacuum}
 use Rattle.law_clients.proofs.ReadReplies.{RepliedSo, at_itself, differs, read_ends, read_fails, reads_on}
 use Rattle.law_clients.proofs.Fitted.{asked_at, vacuum_at}
-use Rattle.law_clients.proofs.Sweeps.{Leads, scan_data, step_leads, sweep_asks}
-use Rattle.law_clients.proofs.Taken.{moved, moved_so}
+use Rattle.law_clients.proofs.Vacuums.{Leads, scan_data, step_leads, sweep_asks}
+use Rattle.law_clients.proofs.Accepted.{moved, moved_so}
 use Rattle.sdb_model.specs.Tables.{is_data}
 
 ---- where a COMMIT goes

@@ -46,7 +46,7 @@ use Rattle.law_clients.proofs.Leaves.{done_images, done_written, given_up_images
 use Rattle.law_clients.proofs.SessionReading.{reads}
 use Rattle.law_clients.proofs.Resolves.{row_stays, settles_trans, sound_stays}
 use Rattle.law_clients.proofs.SessionStatements.{agrees_all, read_answered}
-use Rattle.law_clients.proofs.SessionSweeps.{quiet_trans, vacuums}
+use Rattle.law_clients.proofs.SessionVacuums.{quiet_trans, vacuums}
 
 ---- a COMMIT's next stage
 

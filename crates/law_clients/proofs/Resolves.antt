@@ -6,7 +6,7 @@ use Rattle.std.specs.Result.{result_ok}
 use Rattle.law_clients.specs.Types.{Decided, Key, Record, Table, TxId}
 use Rattle.sdb_types.specs.declared.record.State.TheVariants as state
 use Rattle.sdb_types.specs.Order.{same_key}
-use Rattle.sdb_types.proofs.Public.{false_true, none_some, same_key_tells, some_is}
+use Rattle.sdb_types.proofs.Public.{false_true, none_some, same_key_decides, some_is}
 use Rattle.sdb_record.specs.declared.coordinator.Decision.TheVariants as decision
 use Rattle.sdb_record.specs.Coordinator.{coordinator_key_of, coordinator_row_of, decision_in, is_coordinator_table}
 use Rattle.sdb_record.specs.Meta.{id_in, is_in, is_moment, is_transactional}
@@ -16,7 +16,7 @@ use Rattle.sdb_txn.proofs.Public.{decided_at}
 use Rattle.sdb_record.proofs.Public.{has_moment, image-is, image-open, image-settled, row-decision}
 use Rattle.law_clients.specs.Database.{Database, IsWith, decided_in, decided_on, image_in, is_committed_or_none, is_listed, row_in}
 use Rattle.law_clients.specs.OnlyResolves.{IsApart, IsPreparedFor, IsResolved, IsAbortedRow, OnlyResolves, IsSound}
-use Rattle.law_clients.proofs.Noting.{coordinators}
+use Rattle.law_clients.proofs.ReadRecords.{coordinators}
 
 ---- coordinator rows
 
@@ -224,8 +224,8 @@ pub abort_settles : (catalog : List Table) (g h : Database) (id : TxId) (moment 
 abort_settles catalog g h id moment rec apart rec_listed rec_present rec_open rec_writer fits time none now = record {
   firm = λ k listed f. other k (apart k listed);
   held = λ k r listed e loose. inl (other k (apart k listed) ∙ e);
-  rows = λ k row there e. rows k row e (same_key_tells k key);
-  fresh = λ k row there e f. fresh k row e f (same_key_tells k key);
+  rows = λ k row there e. rows k row e (same_key_decides k key);
+  fresh = λ k row there e f. fresh k row e f (same_key_decides k key);
 }
   where
     key : Key
@@ -235,7 +235,7 @@ abort_settles catalog g h id moment rec apart rec_listed rec_present rec_open re
     aborted = coordinator_row_of id decision.Aborted moment
 
     other : (k : Key) → is_coordinator_table k.table ≡ false → h k ≡ g k
-    other k f = by (same_key_tells k key)
+    other k f = by (same_key_decides k key)
       where
         by : ((same_key k key ≡ true) × (k ≡ key)) ⊎ ((same_key k key ≡ false) × (k ≢ key)) → h k ≡ g k
         by (inl e) = false_true (sym f ∙ ap (λ x. is_coordinator_table x.table) e.1 ∙ coordinators id)
@@ -258,8 +258,8 @@ abort_settles catalog g h id moment rec apart rec_listed rec_present rec_open re
 -- an unresolved record is rolled by the decision on its writer
 pub roll_settles : (catalog : List Table) (g h : Database) (rec : Record) (d : Decided) → IsApart catalog → is_listed catalog rec.key ≡ true → g rec.key ≡ Some rec → is_in state.Committed rec.columns ≡ false → decided_on g rec ≡ Some d → IsWith rec.key (image_under rec (Some d)) g h → OnlyResolves catalog g h
 roll_settles catalog g h rec d apart listed present loose decided now = record {
-  firm = λ k there f. firm k f (same_key_tells k rec.key);
-  held = λ k r there e loose. held k r e (same_key_tells k rec.key);
+  firm = λ k there f. firm k f (same_key_decides k rec.key);
+  held = λ k r there e loose. held k r e (same_key_decides k rec.key);
   rows = λ k row there e. other k there ∙ e;
   fresh = λ k row there e f. none_some row (sym (other k there ∙ e) ∙ f);
 }
@@ -272,7 +272,7 @@ roll_settles catalog g h rec d apart listed present loose decided now = record {
     firm k f (inr n) = now k ∙ ap (λ b. if b then new else g k) n.0
 
     other : (k : Key) → is_coordinator_table k.table ≡ true → h k ≡ g k
-    other k there = by (same_key_tells k rec.key)
+    other k there = by (same_key_decides k rec.key)
       where
         by : ((same_key k rec.key ≡ true) × (k ≡ rec.key)) ⊎ ((same_key k rec.key ≡ false) × (k ≢ rec.key)) → h k ≡ g k
         by (inl s) = false_true (sym (apart rec.key listed) ∙ ap (λ x. is_coordinator_table x.table) (sym s.1) ∙ there)

@@ -22,10 +22,10 @@ use Rattle.law_clients.proofs.Begin.{begins as system_begins}
 use Rattle.law_clients.proofs.Quiet.{quiet_turn}
 use Rattle.law_clients.specs.History.{IsOpened, nothing_yet}
 use Rattle.law_clients.proofs.Files.{story_starts}
-use Rattle.law_clients.proofs.Tellings.{said_more, story_stays}
+use Rattle.law_clients.proofs.Histories.{executed_more, story_stays}
 use Rattle.law_clients.specs.Invariant.{IsOpenOf, RunInvariant, IsSilent}
 use Rattle.law_clients.specs.ReadSets.{IsMadeSince}
-use Rattle.law_clients.proofs.Goings.{events_more, kept_apart, newest_more}
+use Rattle.law_clients.proofs.OtherClients.{events_more, kept_apart, newest_more}
 use Rattle.law_clients.proofs.InvariantReads.{noted_stays, silent_call}
 use Rattle.law_clients.proofs.InvariantOwn.{plain_apart}
 use Rattle.law_clients.proofs.Small.{nothing_ran}
@@ -33,8 +33,8 @@ use Rattle.law_clients.proofs.Small.{nothing_ran}
 ---- no client's event
 
 module _ (catalog : List Table) (fit : Tables → Bool) where
-  pub going_starts : RunInvariant catalog fit [] idle (λ c. None)
-  going_starts = record {
+  pub invariant_starts : RunInvariant catalog fit [] idle (λ c. None)
+  invariant_starts = record {
     plan = plan;
     labelled = [];
     past = [];
@@ -51,8 +51,8 @@ module _ (catalog : List Table) (fit : Tables → Bool) where
       plan : ℕ → Plan
       plan t = plan_of (work_of (id t) (pos 0) nothing)
 
-  pub going_rests : (events : List Event) (sys : SystemAt) (doing : ℕ → Option Statement) (e : Event) → IsSilent e → RunInvariant catalog fit events sys doing → RunInvariant catalog fit (events ++ e ∷ []) sys doing
-  going_rests events sys doing e silent_one g = record {
+  pub invariant_rests : (events : List Event) (sys : SystemAt) (doing : ℕ → Option Statement) (e : Event) → IsSilent e → RunInvariant catalog fit events sys doing → RunInvariant catalog fit (events ++ e ∷ []) sys doing
+  invariant_rests events sys doing e silent_one g = record {
     plan = g.plan;
     labelled = g.labelled ++ q ∷ [];
     past = q ∷ g.past;
@@ -80,8 +80,8 @@ module _ (catalog : List Table) (fit : Tables → Bool) where
       quiet (event.Stop d) i = absurd i
 
       unsaid : (c : ℕ) (e : Event) → IsSilent e → statements_by c (events ++ e ∷ []) ≡ statements_by c events
-      unsaid c (event.Clock moment) i = said_more c events (event.Clock moment)
-      unsaid c (event.Idle d) i = said_more c events (event.Idle d)
+      unsaid c (event.Clock moment) i = executed_more c events (event.Clock moment)
+      unsaid c (event.Idle d) i = executed_more c events (event.Idle d)
       unsaid c (event.Take d text a) i = absurd i
       unsaid c (event.Call d store ask how r a) i = absurd i
       unsaid c (event.Stop d) i = absurd i

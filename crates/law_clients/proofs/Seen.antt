@@ -4,7 +4,7 @@ use Rattle.std.specs.Prelude.{is_some, ◌&&◌, ◌||◌, ◌==◌, find, not, 
 use Rattle.std.specs.List.{AllByRecursion, list_any}
 use Rattle.std.specs.Option.{option_and_then, option_map}
 use Rattle.std.proofs.lemmas.List.Folds.{list_any-append}
-use Rattle.sdb_types.proofs.Public.{all_each as each_any, and_both, key_exact, or_else, same_key_exact, same_key_self, same_key_tells}
+use Rattle.sdb_types.proofs.Public.{all_each as each_any, and_both, key_exact, or_else, same_key_exact, same_key_self, same_key_decides}
 use Rattle.std.specs.Ordering.{is_eq, is_lt}
 use Rattle.std.specs.declared.cmp.Ordering.TheVariants.{Less}
 use Rattle.law_clients.specs.Types.{Access, Key, Keyed, Read, Record, Scan, Span, TxId, Write}
@@ -21,7 +21,7 @@ use Rattle.sdb_phases.specs.Checks.{base_of}
 use Rattle.sdb_snapshot.specs.Reads.{ReadRecord, IsUnmoved, has_changed, is_key_read, base_at, with_read_record, with_images, reads_of}
 use Rattle.sdb_snapshot.specs.Written.{AreChanges, HaveBases}
 use Rattle.sdb_snapshot.specs.Seen.{Seen, nothing, with_get, with_scan, with_written}
-use Rattle.sdb_snapshot.proofs.Public.{Keeps, kept_get, kept_scan, kept_writes, noted_images, or_there, value_last}
+use Rattle.sdb_snapshot.proofs.Public.{Keeps, kept_get, kept_scan, kept_writes, read_images, or_there, value_last}
 use Rattle.sdb_validate.specs.Rescan.{reads_rise, starts_behind}
 use Rattle.law_clients.specs.Reads.{VersionSettled, IsReadThere, IsReadItemOk, IsReadOk, IsScanOk, IsFoundOk, is_found, was_read, was_found, SeenOk, first_image, with_read, MayRecord, work_of, ReadAgrees, Sound, Settled}
 use Rattle.law_clients.specs.ReadAt.{IsImage, IsOfData, Rise, AreInOrder, keys_of}
@@ -84,8 +84,8 @@ none_is None h = refl
 none_is (Some x) h = absurd (cc)
 
 -- what was noted last, at a key that was not noted
-last_noted : (read_set : List ReadRecord) (k : Key) (f : Option Record) → is_key_read read_set k ≡ false → value_at (read_set ++ (k, f) ∷ []) k ≡ Some f
-last_noted read_set k f free = value_last read_set k f k ∙ ap (λ o. or_else o (cond (same_key k k) (Some f) None)) (none_is (value_at read_set k) free) ∙ ap (λ b. cond b (Some f) None) (same_key_self k)
+last_read : (read_set : List ReadRecord) (k : Key) (f : Option Record) → is_key_read read_set k ≡ false → value_at (read_set ++ (k, f) ∷ []) k ≡ Some f
+last_read read_set k f free = value_last read_set k f k ∙ ap (λ o. or_else o (cond (same_key k k) (Some f) None)) (none_is (value_at read_set k) free) ∙ ap (λ b. cond b (Some f) None) (same_key_self k)
 
 ---- a get
 
@@ -104,7 +104,7 @@ get_noted : (past : List Labelled) (s : Seen) (k : Key) (f : Option Record) → 
 get_noted past s k f ok outside free found = record {
   kept = kept_get s.read_set s.writes k f ok.kept (base f found);
   read_set = each_more (IsReadItemOk past) s.read_set (k, f) ok.read_set (outside, settled f found);
-  reads = each_more (IsReadOk later) s.reads (record { key = k; version = version_of f }) (reads_keep s.read_set later s.reads (λ q h. value_last s.read_set k f q ∙ or_there (value_at s.read_set q) (cond (same_key q k) (Some f) None) h) ok.reads) (ap is_some (last_noted s.read_set k f free), ap (λ o. version_of (option_and_then (λ x. x) o)) (sym (last_noted s.read_set k f free)));
+  reads = each_more (IsReadOk later) s.reads (record { key = k; version = version_of f }) (reads_keep s.read_set later s.reads (λ q h. value_last s.read_set k f q ∙ or_there (value_at s.read_set q) (cond (same_key q k) (Some f) None) h) ok.reads) (ap is_some (last_read s.read_set k f free), ap (λ o. version_of (option_and_then (λ x. x) o)) (sym (last_read s.read_set k f free)));
   scans = ok.scans;
   found = scans_keep s.read_set later s.scans (λ q h. value_last s.read_set k f q ∙ or_there (value_at s.read_set q) (cond (same_key q k) (Some f) None) h) ok.found;
   as_read = λ q n. read_more s.reads s.scans (record { key = k; version = version_of f }) q (by q (value_at s.read_set q) (same_key q k) refl refl (ap is_some (sym (value_last s.read_set k f q)) ∙ n));
@@ -154,7 +154,7 @@ version_here past k b (Some u) s e = (b, s, e)
 
 version_read : (past : List Labelled) (rs : List Record) (k : Key) → AllByRecursion (IsImage past) rs → VersionSettled past k (version_among (reads_of rs) k)
 version_read past [] k all = tt
-version_read past (r ∷ rs) k all = by (same_key_tells k r.key) (version_read past rs k all.1)
+version_read past (r ∷ rs) k all = by (same_key_decides k r.key) (version_read past rs k all.1)
   where
     by : ((same_key k r.key ≡ true) × (k ≡ r.key)) ⊎ ((same_key k r.key ≡ false) × (k ≢ r.key)) → VersionSettled past k (version_among (reads_of rs) k) → VersionSettled past k (version_among (reads_of (r ∷ rs)) k)
     by (inl x) ih = subst (λ b. VersionSettled past k (option_and_then (λ (y : Read). y.version) (if b then Some (record { key = r.key; version = version_of (Some r) }) else find (λ (y : Read). same_key k y.key) (reads_of rs)))) (sym x.0) (version_here past k r (id_in r.columns) (subst (λ y. IsSettled past y r) (sym x.1) all.0.0) refl)
@@ -213,10 +213,10 @@ found_noted read_set span rs unmoved inside q f = by (value_at read_set q) (reco
         clash : true ≡ false → ⊥
         clash x = cc
     by None (Some b) e g =
-        let at : value_at (with_images read_set rs) q ≡ Some (Some b) = noted_images read_set rs q ∙ ap (λ x. or_else x (option_map Some (record_among rs q))) e ∙ ap (option_map Some) g in
+        let at : value_at (with_images read_set rs) q ≡ Some (Some b) = read_images read_set rs q ∙ ap (λ x. or_else x (option_map Some (record_among rs q))) e ∙ ap (option_map Some) g in
         (ap is_some at, ap (λ x. version_of (option_and_then (λ y. y) x)) at ∙ sym (version_found rs q ∙ ap version_of g))
     by (Some x) (Some b) e g =
-        let at : value_at (with_images read_set rs) q ≡ Some x = noted_images read_set rs q ∙ ap (λ y. or_else y (option_map Some (record_among rs q))) e in
+        let at : value_at (with_images read_set rs) q ≡ Some x = read_images read_set rs q ∙ ap (λ y. or_else y (option_map Some (record_among rs q))) e in
         let same : same_version (version_of x) (version_of (record_among rs q)) ≡ true = not_false (same_version (version_of x) (version_of (record_among rs q))) (sym (ap (λ y. has_changed y (record_among rs q)) e) ∙ unmoved q (found_inside span rs q inside there)) in
         (ap is_some at, ap (λ y. version_of (option_and_then (λ z. z) y)) at ∙ same_is_one (version_of x) (version_of (record_among rs q)) same ∙ sym (version_found rs q))
 
@@ -224,10 +224,10 @@ scan_noted : (past : List Labelled) (s : Seen) (span : Span) (rs : List Record) 
 scan_noted past s span rs ok tables unmoved all place = record {
   kept = kept_scan s.read_set s.writes rs ok.kept (each_any (IsImage past) (λ r. IsBaseOf r.key r) rs (λ r i. (refl, i.1, i.2)) all);
   read_set = notes_images past s.read_set rs ok.read_set (each_both (IsImage past) (λ r. in_span span r.key ≡ true) (IsTableImage past) rs (λ r i inside. (i, tables r.key inside)) all (each_unmap (λ k. in_span span k ≡ true) (λ (r : Record). r.key) rs place.1));
-  reads = reads_keep s.read_set (with_images s.read_set rs) s.reads (λ q h. noted_images s.read_set rs q ∙ or_there (value_at s.read_set q) _ h) ok.reads;
+  reads = reads_keep s.read_set (with_images s.read_set rs) s.reads (λ q h. read_images s.read_set rs q ∙ or_there (value_at s.read_set q) _ h) ok.reads;
   scans = each_more (IsScanOk past) s.scans (record { span = span; found = reads_of rs }) ok.scans (rise_read rs place.0, λ k inside. (tables k inside, version_read past rs k all));
-  found = each_more (IsFoundOk (with_images s.read_set rs)) s.scans (record { span = span; found = reads_of rs }) (scans_keep s.read_set (with_images s.read_set rs) s.scans (λ q h. noted_images s.read_set rs q ∙ or_there (value_at s.read_set q) _ h) ok.found) (found_noted s.read_set span rs unmoved place.1);
-  as_read = λ q n. scan_more s.reads s.scans (record { span = span; found = reads_of rs }) q (by q (value_at s.read_set q) (record_among rs q) refl refl (ap is_some (sym (noted_images s.read_set rs q)) ∙ n));
+  found = each_more (IsFoundOk (with_images s.read_set rs)) s.scans (record { span = span; found = reads_of rs }) (scans_keep s.read_set (with_images s.read_set rs) s.scans (λ q h. read_images s.read_set rs q ∙ or_there (value_at s.read_set q) _ h) ok.found) (found_noted s.read_set span rs unmoved place.1);
+  as_read = λ q n. scan_more s.reads s.scans (record { span = span; found = reads_of rs }) q (by q (value_at s.read_set q) (record_among rs q) refl refl (ap is_some (sym (read_images s.read_set rs q)) ∙ n));
 }
   where
     by : (q : Key) (o : Option (Option Record)) (p : Option Record) → value_at s.read_set q ≡ o → record_among rs q ≡ p → is_some (or_else o (option_map Some (record_among rs q))) ≡ true → ((was_read s.reads q || was_found s.scans q) ≡ true) ⊎ ((in_span span q && list_any (λ (r : Read). same_key q r.key) (reads_of rs)) ≡ true)

@@ -6,7 +6,7 @@ use Rattle.sdb_types.specs.declared.record.Request.TheVariants as ask
 use Rattle.sdb_types.specs.declared.record.Reply.TheVariants as reply
 use Rattle.sdb_types.specs.Contents.{Contents, record_at, holds, put_reply, reply_to, after, in_span, record_among, rows_in}
 use Rattle.sdb_types.specs.Order.{same_key}
-use Rattle.sdb_types.proofs.Public.{rows_in-are_rows_of, same_key_tells}
+use Rattle.sdb_types.proofs.Public.{rows_in-are_rows_of, same_key_decides}
 use Rattle.sdb_model.specs.Rows.{Name}
 use Rattle.sdb_model.specs.Events.{StoreContents, stored_at, table_asked, IsCall}
 use Rattle.law_protocol.proofs.Public.{after_delete, after_put, at_call, AtCall, row_there, span_table}
@@ -36,7 +36,7 @@ module _ (places : List Place) (q : Request) (key : Key) (c : Condition) (new : 
   ]
     where
       apart : k.table.ns ≢ (table_asked q).ns → same_key k key ≡ false
-      apart n = elim (same_key_tells k key) [
+      apart n = elim (same_key_decides k key) [
         | inl e ↦ absurd (n (ap (λ x. x.table.ns) e.1 ∙ ns))
         | inr f ↦ f.0
       ]

@@ -6,7 +6,7 @@ use Rattle.std.specs.List.{AllByRecursion, list_all}
 use Rattle.law_clients.specs.Types.{Check, Key, Read, Record, Reply, Scan, Table, TxId, Write}
 use Rattle.sdb_types.specs.Contents.{are_rows_of, holds, in_span, record_among, rise}
 use Rattle.sdb_types.specs.Order.{same_key}
-use Rattle.sdb_types.proofs.Public.{and_first, and_second, append_all, false_true, itself, not_true, same_key_tells}
+use Rattle.sdb_types.proofs.Public.{and_first, and_second, append_all, false_true, itself, not_true, same_key_decides}
 use Rattle.sdb_record.specs.Among.{is_written, version_among, write_among}
 use Rattle.sdb_record.specs.Coordinator.{coordinator_key_of, is_coordinator_table}
 use Rattle.sdb_record.specs.Moved.{condition_of, is_unchanged, same_version, version_of}
@@ -21,7 +21,7 @@ use Rattle.law_clients.specs.Database.{Called, Found, Got, Database, HasFailed, 
 use Rattle.law_clients.specs.OnlyResolves.{IsApart, IsSound}
 use Rattle.law_clients.specs.Commits.{OthersUnchanged, IsReadCurrent, IsScanCurrent, WorkAlone}
 use Rattle.law_clients.proofs.Writes.{found_at, based_at, version_holds}
-use Rattle.law_clients.proofs.Noting.{coordinators}
+use Rattle.law_clients.proofs.ReadRecords.{coordinators}
 
 -- A check is a read, and passes or has failed.
 pub record Passes (g : Database) (c : Check) : Type 0 where
@@ -43,7 +43,7 @@ base_is (w ∷ ws) k = by (same_key k w.key) refl (base_is ws k)
 module _ (catalog : List Table) (apart : IsApart catalog) (start : Database) (sound : IsSound catalog start) (p : Work) (work : WorkAlone catalog start p) (g : Database) (others : OthersUnchanged p start g) where
   -- a key of a table that isn't written is as before
   unwritten : (k : Key) → is_listed catalog k ≡ true → is_written p.writes k ≡ false → g k ≡ start k
-  unwritten k listed free = others k free (elim (same_key_tells k (coordinator_key_of p.id)) [
+  unwritten k listed free = others k free (elim (same_key_decides k (coordinator_key_of p.id)) [
     | inl e ↦ false_true (sym (apart k listed) ∙ ap (λ x. is_coordinator_table x.table) e.1 ∙ coordinators p.id)
     | inr n ↦ n.0
   ])
@@ -81,7 +81,7 @@ module _ (catalog : List Table) (apart : IsApart catalog) (start : Database) (so
       where
         by : (rs : List Record) → list_all (λ r. in_span x.span r.key) rs ≡ true → record_among rs k ≡ None
         by [] h = refl
-        by (r ∷ rs) h = one (same_key_tells k r.key) (by rs (and_second (in_span x.span r.key) (list_all (λ y. in_span x.span y.key) rs) h))
+        by (r ∷ rs) h = one (same_key_decides k r.key) (by rs (and_second (in_span x.span r.key) (list_all (λ y. in_span x.span y.key) rs) h))
           where
             one : ((same_key k r.key ≡ true) × (k ≡ r.key)) ⊎ ((same_key k r.key ≡ false) × (k ≢ r.key)) → record_among rs k ≡ None → record_among (r ∷ rs) k ≡ None
             one (inl e) ih = false_true (sym without ∙ ap (in_span x.span) e.1 ∙ and_first (in_span x.span r.key) (list_all (λ y. in_span x.span y.key) rs) h)

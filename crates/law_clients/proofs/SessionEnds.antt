@@ -5,7 +5,7 @@ use Rattle.std.specs.Result.{result_ok}
 use Rattle.std.specs.FinMap.{get}
 use Rattle.law_clients.specs.Types.{Decided, Key, Pair, Record, Table, Write}
 use Rattle.sdb_types.specs.declared.record.State.TheVariants as state
-use Rattle.sdb_types.proofs.Public.{and_first, false_true, none_some, same_key_tells, some_is}
+use Rattle.sdb_types.proofs.Public.{and_first, false_true, none_some, same_key_decides, some_is}
 use Rattle.sdb_record.specs.declared.coordinator.Decision.TheVariants as decision
 use Rattle.sdb_record.specs.Among.{write_among}
 use Rattle.sdb_record.specs.Coordinator.{coordinator_key_of, decision_in, is_coordinator_table}
@@ -26,7 +26,7 @@ use Rattle.law_clients.specs.Seen.{AreImagesOf}
 use Rattle.law_clients.proofs.Leaves.{done_images, given_up_rows, row_unwritten}
 use Rattle.law_clients.proofs.Recovers.{row_at}
 use Rattle.law_clients.proofs.Writes.{found_at, based_at}
-use Rattle.law_clients.proofs.Noting.{coordinators}
+use Rattle.law_clients.proofs.ReadRecords.{coordinators}
 
 ---- rows of tables that fit
 
@@ -39,7 +39,7 @@ module _ (catalog : List Table) (apart : IsApart catalog) (start : Database) (so
   at_key G k listed r e stood wrote = by (write_among p.writes k) refl
     where
       by : (o : Option Write) → write_among p.writes k ≡ o → G r
-      by None f = stood (sym (others k (ap is_some f) (elim (same_key_tells k row) [
+      by None f = stood (sym (others k (ap is_some f) (elim (same_key_decides k row) [
         | inl s ↦ false_true (sym (apart k listed) ∙ ap (λ (x : Key). is_coordinator_table x.table) s.1 ∙ coordinators p.id)
         | inr n ↦ n.0
       ])) ∙ e)
@@ -82,19 +82,19 @@ module _ (catalog : List Table) (apart : IsApart catalog) (start : Database) (so
 
   -- coordinator rows
   row_there : (k : Key) (x : Record) → is_coordinator_table k.table ≡ true → start k ≡ Some x → h k ≡ Some x
-  row_there k x there e = elim (same_key_tells k row) [
+  row_there k x there e = elim (same_key_decides k row) [
     | inl s ↦ none_some x (sym work.fresh ∙ ap start (sym s.1) ∙ e)
     | inr n ↦ others k (row_unwritten catalog apart start sound p work h others k there) n.0 ∙ e
   ]
 
   row_new : (k : Key) (x : Record) → is_coordinator_table k.table ≡ true → start k ≡ None → h k ≡ Some x → (IsAbortedRow x × IsPreparedFor catalog start k) ⊎ IsOwnRow (Some (record { id = p.id; at = p.now })) k
-  row_new k x there e f = elim (same_key_tells k row) [
+  row_new k x there e f = elim (same_key_decides k row) [
     | inl s ↦ inr (record { o = record { id = p.id; at = p.now }; is = refl; key = s.1 })
     | inr n ↦ none_some x (sym (others k (row_unwritten catalog apart start sound p work h others k there) n.0 ∙ e) ∙ f)
   ]
 
   rows_ok : (IsUndecided h p.id ⊎ IsSomeAnd (decided_in h p.id) (λ d. Unit {0})) → (k : Key) (x : Record) → is_coordinator_table k.table ≡ true → h k ≡ Some x → is_ok (decision_in x) ≡ true
-  rows_ok known k x there e = elim (same_key_tells k row) [
+  rows_ok known k x there e = elim (same_key_decides k row) [
     | inl s ↦ of known (ap h (sym s.1) ∙ e)
     | inr n ↦ sound.rows k x there (sym (others k (row_unwritten catalog apart start sound p work h others k there) n.0) ∙ e)
   ]

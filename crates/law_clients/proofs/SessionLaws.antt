@@ -33,7 +33,7 @@ use Rattle.sdb_txn.specs.Txn.{TxnAt}
 use Rattle.law_clients.proofs.Meta.{meta_of}
 use Rattle.sdb_client.specs.Client.{ClientAt}
 use Rattle.law_clients.specs.Body.{AgreesAll}
-use Rattle.law_clients.proofs.Noting.{coordinators}
+use Rattle.law_clients.proofs.ReadRecords.{coordinators}
 use Rattle.law_clients.specs.Fitting.{tables_are_well_typed}
 use Rattle.law_clients.specs.Database.{Database, decided_in, is_listed, row_in}
 use Rattle.law_clients.specs.OnlyResolves.{IsApart, OnlyResolves, IsSound}
@@ -48,7 +48,7 @@ use Rattle.law_clients.specs.Chain.{Chain, Exchanged, OutOfMemory, Answers, tran
 use Rattle.law_clients.proofs.SessionStatements.{agrees_all, rows_change}
 use Rattle.law_clients.proofs.Recovers.{row_at}
 use Rattle.law_clients.proofs.Stays.{rows_same, IsOther, aborted_not, is_committed_by, later_of, parts_append, parts_same, tables_append, tables_same, unused_stays}
-use Rattle.law_clients.proofs.SessionSweeps.{quiet_of, quiet_refl}
+use Rattle.law_clients.proofs.SessionVacuums.{quiet_of, quiet_refl}
 
 ---- bodies
 

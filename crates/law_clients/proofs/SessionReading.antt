@@ -8,7 +8,7 @@ use Rattle.sdb_types.specs.declared.record.Reply.TheVariants as reply
 use Rattle.sdb_types.specs.declared.record.State.TheVariants as state
 use Rattle.sdb_types.specs.Contents.{in_span, record_among, rise}
 use Rattle.sdb_types.specs.Order.{key_cmp, same_key}
-use Rattle.sdb_types.proofs.Public.{and_both, and_first, and_second, false_true, none_some, same_key_exact, same_key_is, same_key_of, same_key_tells, same_key_turned, some_is}
+use Rattle.sdb_types.proofs.Public.{and_both, and_first, and_second, false_true, none_some, same_key_exact, same_key_is, same_key_of, same_key_decides, same_key_turned, some_is}
 use Rattle.sdb_record.specs.declared.access.Access.TheVariants as access
 use Rattle.sdb_record.specs.Meta.{checked, is_in, is_moment, is_transactional, is_unresolved}
 use Rattle.sdb_record.specs.Parts.{are_stored}
@@ -152,7 +152,7 @@ module _ (catalog : List Table) (apart : IsApart catalog) (now : ℤ) (g h : Dat
     rows_stay : h rec.key ≡ Some rec → AreRowsAt h a (images ++ rec ∷ left)
     rows_stay present = record {
       place = rows.place;
-      all = λ k within. elim (same_key_tells k rec.key) [
+      all = λ k within. elim (same_key_decides k rec.key) [
         | inl e ↦ ap (record_among (images ++ rec ∷ left)) e.1 ∙ found_middle images rec left rows.place.0 ∙ sym (ap h e.1 ∙ present)
         | inr n ↦ among_other images rec left k n.0 ∙ elsewhere k within n.0 n.1
       ];
@@ -162,7 +162,7 @@ module _ (catalog : List Table) (apart : IsApart catalog) (now : ℤ) (g h : Dat
     rows_without : h rec.key ≡ None → AreRowsAt h a (images ++ left)
     rows_without present = record {
       place = (rise_without images rec left rows.place.0, in_without a images rec left rows.place.1);
-      all = λ k within. elim (same_key_tells k rec.key) [
+      all = λ k within. elim (same_key_decides k rec.key) [
         | inl e ↦ ap (record_among (images ++ left)) e.1 ∙ among_none (images ++ left) rec.key (others_apart images rec left rows.place.0) ∙ sym (ap h e.1 ∙ present)
         | inr n ↦ elsewhere k within n.0 n.1
       ];
@@ -172,7 +172,7 @@ module _ (catalog : List Table) (apart : IsApart catalog) (now : ℤ) (g h : Dat
     rows_with : (b : Record) → b.key ≡ rec.key → h rec.key ≡ Some b → AreRowsAt h a ((images ++ b ∷ []) ++ left)
     rows_with b key present = subst (AreRowsAt h a) (sym (append_assoc images (b ∷ []) left)) (record {
       place = place;
-      all = λ k within. elim (same_key_tells k rec.key) [
+      all = λ k within. elim (same_key_decides k rec.key) [
         | inl e ↦ ap (record_among (images ++ b ∷ left)) (e.1 ∙ sym key) ∙ found_middle images b left place.0 ∙ sym (ap h e.1 ∙ present)
         | inr n ↦ among_other images b left k (ap (same_key k) key ∙ n.0) ∙ elsewhere k within n.0 n.1
       ];

@@ -9,7 +9,7 @@ use Rattle.sdb_types.specs.declared.record.Request.TheVariants as ask
 use Rattle.sdb_types.specs.declared.record.Reply.TheVariants as reply
 use Rattle.sdb_types.specs.Contents.{in_span, record_among}
 use Rattle.sdb_types.specs.Order.{same_key}
-use Rattle.sdb_types.proofs.Public.{false_true, itself, none_some, or_else, or_false, or_true, same_key_is, same_key_of, same_key_tells, some_is}
+use Rattle.sdb_types.proofs.Public.{false_true, itself, none_some, or_else, or_false, or_true, same_key_is, same_key_of, same_key_decides, some_is}
 use Rattle.sdb_snapshot.specs.Entries.{value_at}
 use Rattle.sdb_record.specs.declared.access.Access.TheVariants as access
 use Rattle.sdb_record.specs.Meta.{is_transactional}
@@ -23,7 +23,7 @@ use Rattle.law_protocol.specs.Lawful.{Itself, Labelled, labelled_with}
 use Rattle.sdb_snapshot.specs.Reads.{AreBases, IsUnmoved, ReadRecord, base_at, has_changed, is_key_read, record_read_at, reads_of, with_images}
 use Rattle.sdb_snapshot.specs.Seen.{Seen, with_get, with_scan, with_written}
 use Rattle.sdb_snapshot.specs.Written.{AreChanges}
-use Rattle.sdb_snapshot.proofs.Public.{noted_images, value_last}
+use Rattle.sdb_snapshot.proofs.Public.{read_images, value_last}
 use Rattle.law_clients.specs.Reads.{MayRecord, SeenOk, first_image, with_read}
 use Rattle.law_clients.specs.ReadAt.{IsImage, IsOfData}
 use Rattle.law_clients.proofs.Lists.{each_more, each_unmap}
@@ -41,7 +41,7 @@ use Rattle.law_clients.proofs.SessionReading.{among_none}
 -- what is noted at a key is none or a committed record of it
 bases_at : (read_set : List ReadRecord) → AreBases read_set → (k : Key) (b : Record) → base_at read_set k ≡ Some b → IsBaseOf k b
 bases_at [] all k b e = none_some b e
-bases_at (n ∷ read_set) all k b e = by (same_key_tells k n.0) (bases_at read_set all.1 k b)
+bases_at (n ∷ read_set) all k b e = by (same_key_decides k n.0) (bases_at read_set all.1 k b)
   where
     at : (f : Option Record) → n.1 ≡ f → IfSome f (IsBaseOf n.0) → k ≡ n.0 → f ≡ Some b → IsBaseOf k b
     at None h is_write s g = none_some b g
@@ -134,7 +134,7 @@ module _ (catalog : List Table) (apart : IsApart catalog) (past : List Labelled)
     where
       each : (rs : List Record) → AllByRecursion (λ r. in_access a r.key ≡ true) rs → AllByRecursion (λ r. same_key k r.key ≡ false) rs
       each [] w = tt
-      each (r ∷ rs) w = (elim (same_key_tells k r.key) [ inl e ↦ false_true (sym out ∙ ap (in_access a) e.1 ∙ w.0) | inr n ↦ n.0 ], each rs w.1)
+      each (r ∷ rs) w = (elim (same_key_decides k r.key) [ inl e ↦ false_true (sym out ∙ ap (in_access a) e.1 ∙ w.0) | inr n ↦ n.0 ], each rs w.1)
 
   -- A scan finds each key that was read as it was read: it never differs.
   pub unmoved : (span : Span) → a ≡ access.Scan span → IsUnmoved s.read_set span images
@@ -159,7 +159,7 @@ module _ (catalog : List Table) (apart : IsApart catalog) (past : List Labelled)
   scan_current span is k covered = by (record_read_at s.read_set k) refl
     where
       later : value_at (with_images s.read_set images) k ≡ or_else (value_at s.read_set k) (option_map Some (record_among images k))
-      later = noted_images s.read_set images k
+      later = read_images s.read_set images k
 
       fresh : record_read_at s.read_set k ≡ None → (b : Bool) → in_access a k ≡ b → (is_listed catalog k ≡ true) × (g k ≡ record_among images k)
       fresh e true within = (tables k within, sym (rows.all k within))
@@ -210,7 +210,7 @@ module _ (catalog : List Table) (apart : IsApart catalog) (past : List Labelled)
       by (b ∷ rs) w = sym (ap (λ t. if t then Some b else record_among rs key) (same_key_is key b.key ∙ sym (ap (λ x. in_access x b.key) is) ∙ w.0))
 
   get_current : (key : Key) → a ≡ access.Get key → (k : Key) → was_covered (with_get s key (first_image images)) k ≡ true → (is_listed catalog k ≡ true) × (g k ≡ base_at (s.read_set ++ (key, first_image images) ∷ []) k)
-  get_current key is k covered = by (record_read_at s.read_set k) refl (same_key_tells k key)
+  get_current key is k covered = by (record_read_at s.read_set k) refl (same_key_decides k key)
     where
       f : Option Record
       f = first_image images

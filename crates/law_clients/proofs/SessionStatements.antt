@@ -45,7 +45,7 @@ use Rattle.sdb_client.proofs.Public.{may_write}
 use Rattle.law_clients.specs.Reads.{with_read}
 use Rattle.law_clients.specs.Body.{AgreesAll, AnswersOn, BodyOk, ReadAgrees, ScanAgrees}
 use Rattle.law_clients.proofs.Bodies.{access_agrees, body_read, body_step}
-use Rattle.law_clients.proofs.Noting.{coordinators}
+use Rattle.law_clients.proofs.ReadRecords.{coordinators}
 use Rattle.law_clients.specs.Fitting.{tables_are_well_typed}
 use Rattle.law_clients.proofs.Fitted.{by_next}
 use Rattle.law_clients.proofs.RowsFit.{answers_on, found_itself, all_in_fit}

@@ -9,7 +9,7 @@ use Rattle.sdb_model.specs.declared.event.Event.TheVariants as event
 use Rattle.sdb_model.specs.Calls.{StoreCall, calls_by, calls_of, made_by, end_of}
 use Rattle.sdb_model.specs.Transactions.{Executed, numbered}
 use Rattle.law_clients.specs.Calls.{WasAnswered, call_made, calls_since}
-use Rattle.law_clients.proofs.Tellings.{numbers_more}
+use Rattle.law_clients.proofs.Histories.{numbers_more}
 use Rattle.std.proofs.lemmas.List.{append-nil as no_more}
 use Rattle.sdb_types.proofs.Public.{all_each as each_any, at_most_nat as within_end, below as is_after, fails_second as both_false}
 

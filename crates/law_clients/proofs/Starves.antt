@@ -7,7 +7,7 @@ use Rattle.sdb_model.specs.declared.statement.Statement.TheVariants as statement
 use Rattle.sdb_model.specs.Sql.{reads_commit}
 use Rattle.sdb_sqltext.proofs.Public.{commit_read}
 use Rattle.sdb_client.specs.Client.{ClientAt, Parses, resting, out_of_memory}
-use Rattle.law_clients.proofs.Taken.{other_no_commit, refused_no_commit}
+use Rattle.law_clients.proofs.Accepted.{other_no_commit, refused_no_commit}
 use Rattle.law_clients.specs.Database.{Database}
 use Rattle.law_clients.specs.Between.{Between, OpenTransaction}
 use Rattle.law_clients.specs.Chain.{Exchanged, OutOfMemory}

@@ -21,7 +21,7 @@ use Rattle.law_clients.specs.SessionVacuums.{Quiet}
 use Rattle.law_clients.specs.Session.{AreSerialParts, Exchange, IsSerialPart, Part, answers_in, is_recorded_in, is_recorded, is_recorded_by, recorded_of, statements_in, tables_after}
 use Rattle.law_clients.proofs.Leaves.{row_names, writer_fits}
 use Rattle.law_clients.proofs.Recovers.{row_at}
-use Rattle.law_clients.proofs.Noting.{coordinators}
+use Rattle.law_clients.proofs.ReadRecords.{coordinators}
 
 pub later_of : (catalog : List Table) (own : Option Own) (g h : Database) → Quiet catalog g h → Later catalog own g h
 later_of catalog own g h s = record {

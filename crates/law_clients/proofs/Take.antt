@@ -29,7 +29,7 @@ use Rattle.law_clients.specs.System.{ClientAt, Resting, Open, Reading, Committin
 use Rattle.law_clients.proofs.Kept.{by_test, checks_begin, not_deciding}
 use Rattle.law_clients.proofs.Replan.{replanned}
 use Rattle.law_clients.proofs.Clients.{turned}
-use Rattle.law_clients.proofs.Commit.{no_start, no_sweep}
+use Rattle.law_clients.proofs.Commit.{no_start, never_vacuum}
 use Rattle.law_clients.proofs.Lists.{each_at, each_map, each_filter}
 use Rattle.law_clients.proofs.Seen.{sound_of, settled_of}
 use Rattle.law_clients.proofs.Work.{work_ok, got_says, scan_says, noted_by, not_noted}
@@ -195,7 +195,7 @@ take_turn plan past sys c id seen now text agrees commit = turned (with_plan pla
   denies = λ a executed denial. none a executed;
   knows = started (preparing p 0) (begins_at (with_plan plan p) (take_labelled c text p ∷ past) p here.0.stage here.0.unasked here.0.safe);
   holds = λ u h o. inr (begun_has p u (subst (λ x. Has x u) agrees.at h));
-  starts = no_start (commit_left p (preparing p 0)) (no_sweep p (preparing p 0));
+  starts = no_start (commit_left p (preparing p 0)) (never_vacuum p (preparing p 0));
 })
   where
     p : Work

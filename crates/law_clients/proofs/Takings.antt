@@ -63,7 +63,7 @@ use Rattle.law_clients.specs.Between.{Answered, Begun, Between, LeadsTo, Commits
 use Rattle.law_clients.proofs.Resolves.{settles_refl}
 use Rattle.law_clients.proofs.SessionStatements.{agrees_all, answered_at, rows_change}
 use Rattle.law_clients.proofs.SessionSeen.{seen_written}
-use Rattle.law_clients.proofs.SessionSweeps.{has_vacuumed, quiet_refl, removed_none}
+use Rattle.law_clients.proofs.SessionVacuums.{has_vacuumed, quiet_refl, removed_none}
 use Rattle.law_clients.proofs.Works.{work_alone}
 use Rattle.law_clients.proofs.Lists.{each_at}
 

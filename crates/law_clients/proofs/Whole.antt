@@ -30,8 +30,8 @@ use Rattle.law_clients.specs.Fitting.{tables_are_well_typed}
 use Rattle.law_clients.specs.States.{ClientState, IsGated, IsPlainAnswer, IsReady, doing_of, system_of}
 use Rattle.law_clients.proofs.RowsFit.{found_itself}
 use Rattle.law_clients.proofs.Asked.{IsAsked, told_known, told_unknown}
-use Rattle.law_clients.proofs.Taken.{IsSo, at_open, other_no_begin, other_no_commit, refused_no_commit, refused_plain, told_begun, told_commit, told_outside, commit_lost, told_rollback, told_same, told_vacuum}
-use Rattle.law_clients.proofs.Sweeps.{begun_in, scan_data}
+use Rattle.law_clients.proofs.Accepted.{IsSo, at_open, other_no_begin, other_no_commit, refused_no_commit, refused_plain, told_begun, told_commit, told_outside, commit_lost, told_rollback, told_same, told_vacuum}
+use Rattle.law_clients.proofs.Vacuums.{begun_in, scan_data}
 use Rattle.sdb_types.specs.Exact.{equal_of}
 use Rattle.sdb_exec.proofs.Public.{own}
 use Rattle.sdb_model.specs.Tables.{is_data}

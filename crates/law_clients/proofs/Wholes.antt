@@ -19,7 +19,7 @@ use Rattle.law_protocol.specs.Records.{write_there}
 use Rattle.law_protocol.specs.Trace.{closing, history}
 use Rattle.law_protocol.specs.Explained.{IsRunOf}
 use Rattle.law_protocol.specs.Serial.{IsOrdered, ReadsSerial}
-use Rattle.law_protocol.proofs.Public.{firm_of, firm_row, firm_writer, reads_serial, rows_serial, whole_of, writer_taken, writes_it}
+use Rattle.law_protocol.proofs.Public.{firm_of, firm_row, firm_writer, reads_serial, rows_serial, whole_of, writer_accepted, writes_it}
 use Rattle.law_clients.specs.Reads.{SeenOk}
 use Rattle.law_clients.proofs.Seen.{base_settled, base_table}
 use Rattle.law_clients.specs.Body.{AgreesAll}
@@ -33,7 +33,7 @@ notes_left plan places opening past ss s run ok k b e =
     let w = history plan places opening past ss in
     let all = whole_of plan places opening past ss run in
     let firm = firm_of plan w past k b all.knows (base_table past s.read_set k b ok.read_set e) (base_settled past s.read_set k b ok.read_set e) in
-    let accepted : w.protocol.accepted firm.t ≡ true = writer_taken plan w k firm.t all.knows.inv.accepted firm.writer in (
+    let accepted : w.protocol.accepted firm.t ≡ true = writer_accepted plan w k firm.t all.knows.inv.accepted firm.writer in (
       firm.t,
       ap (λ (x : Record). id_in x.columns) firm.same ∙ firm_writer plan firm.t k firm.fits,
       ap row_of_image firm.same ∙ firm_row plan firm.t k ((all.knows.planned firm.t accepted).write k (write_there (plan firm.t) k) (writes_it (plan firm.t) k firm.writer.1)).0,

@@ -25,7 +25,7 @@ use Rattle.law_clients.specs.Owner.{plan_of, items_of_work, checked_items, own_i
 use Rattle.law_clients.proofs.Lists.{each_at, each_map, each_filter}
 use Rattle.sdb_snapshot.specs.Written.{HaveKeysOnce}
 use Rattle.law_clients.specs.Reads.{ReadAgrees, Sound}
-use Rattle.sdb_types.proofs.Public.{all_each as each_any, and_first as rises, append_all as each_append, none_some as some_apart, not_true, same_key_self, same_key_tells}
+use Rattle.sdb_types.proofs.Public.{all_each as each_any, and_first as rises, append_all as each_append, none_some as some_apart, not_true, same_key_self, same_key_decides}
 use Rattle.sdb_types.specs.Order.{same_key}
 use Rattle.sdb_model.specs.Tables.{is_data}
 
@@ -150,7 +150,7 @@ unfolding version_read_at
 noted_by p i k version n at h = ap (λ o. option_map number_of (option_and_then (λ x. version_read x k) o)) (sym at) ∙ h
 
 pub got_says : (r : Read) (k : Key) (version : Option ℕ) → option_map number_of (version_read (KeyRead r) k) ≡ Some version → (r.key ≡ k) × (number_of r.version ≡ version)
-got_says r k version h = by (same_key_tells r.key k) h
+got_says r k version h = by (same_key_decides r.key k) h
   where
     some_is : (x y : Option ℕ) → Some x ≡ Some y → x ≡ y
     some_is x y e = cc
@@ -264,7 +264,7 @@ once_at (x ∷ xs) zero w once at = ap (λ b. if b then Some x else write_among 
   where
     key_is : (x v : Write) → Some x ≡ Some v → x.key ≡ v.key
     key_is x v e = cc
-once_at (x ∷ xs) (suc i) w once at = by (same_key_tells w.key x.key) (once_at xs i w once.1 at)
+once_at (x ∷ xs) (suc i) w once at = by (same_key_decides w.key x.key) (once_at xs i w once.1 at)
   where
     by : ((same_key w.key x.key ≡ true) × (w.key ≡ x.key)) ⊎ ((same_key w.key x.key ≡ false) × (w.key ≢ x.key)) → write_among xs w.key ≡ Some w → write_among (x ∷ xs) w.key ≡ Some w
     by (inl y) ih = absurd (unwritten_other xs i x.key w once.0 at y.1)

@@ -188,14 +188,14 @@ module _ (catalog : List Table) (now : ℤ) (id : TxId) where
       kept_at : (z : Answer) (u : TxnAt) → u.doing ≡ doing.Idle → is_conflict (Some z) ≡ false → MayAnswer z → Left st (next.Answer z) u
       kept_at z u idle agrees may = answered true (Ok st) z (Some z) (holding c u) (holding c u) refl refl (kept_open st z c u stays on free idle agrees may)
 
-      noting_idle : (images : List Record) (a : Access) → (with_rows_read t a images).doing ≡ doing.Idle
-      noting_idle images (access.Get key) = refl
-      noting_idle images (access.Scan span) = refl
+      reading_stays_idle : (images : List Record) (a : Access) → (with_rows_read t a images).doing ≡ doing.Idle
+      reading_stays_idle images (access.Get key) = refl
+      reading_stays_idle images (access.Scan span) = refl
 
       images_case : (images : List Record) (n : Next) (u : TxnAt) → RowsReadPost t p a images n u → Left st n u
       images_case images (next.Answer z) u h =
           let plain : IsPlain z = subst IsPlain (sym h.1) (given_plain p _ (with_rows_read t a images) (ap (λ y. is_some (table_of y)) of ∙ on)) in
-          kept_at z u (ap (λ (v : TxnAt). v.doing) h.2 ∙ left_idle (with_rows_read t a images) (gives p a (with_rows_read t a images)) (noting_idle images a)) plain.agrees plain.may
+          kept_at z u (ap (λ (v : TxnAt). v.doing) h.2 ∙ left_idle (with_rows_read t a images) (gives p a (with_rows_read t a images)) (reading_stays_idle images a)) plain.agrees plain.may
       images_case images (next.End (answer.Conflict key found)) u h = answered true (Ok st) (answer.Conflict key found) (Some (answer.Conflict key found)) (resting c) (resting c) refl refl (ended_at (Ok st) (answer.Conflict key found) c stays free (conflict_ends (is_commit (Ok st))) tt)
         where
           conflict_ends : (b : Bool) → (b || (true || (is_rollback (Ok st) && false))) ≡ true

@@ -12,7 +12,7 @@ use Rattle.sdb_types.specs.ValueLaws.{value_total}
 use Rattle.sdb_types.specs.declared.record.State.TheVariants as state
 use Rattle.sdb_types.specs.Contents.{has_value, holds, tx_id}
 use Rattle.sdb_types.specs.Order.{same_key}
-use Rattle.sdb_types.proofs.Public.{and_both, and_second, false_true, none_some, same_key_self, same_key_tells}
+use Rattle.sdb_types.proofs.Public.{and_both, and_second, false_true, none_some, same_key_self, same_key_decides}
 use Rattle.sdb_record.specs.Among.{is_written, write_among}
 use Rattle.sdb_record.specs.Coordinator.{coordinator_key_of, is_coordinator_table}
 use Rattle.sdb_record.specs.Meta.{checked, id_in, id_in_value, is_in, is_transactional}
@@ -25,7 +25,7 @@ use Rattle.law_clients.proofs.Lists.{each_at}
 use Rattle.law_clients.specs.Database.{Database, IsWith, is_committed_or_none}
 use Rattle.law_clients.specs.OnlyResolves.{IsApart}
 use Rattle.law_clients.specs.Commits.{EachWrite, OthersUnchanged, WorkAlone, IsBaseCurrent}
-use Rattle.law_clients.proofs.Noting.{coordinators}
+use Rattle.law_clients.proofs.ReadRecords.{coordinators}
 
 ---- writes of a list with each key once
 
@@ -54,7 +54,7 @@ once_apart (x ∷ xs) (suc i) (suc j) v w once l at there = once_apart xs i j v 
 pub once_at : (ws : List Write) (i : ℕ) (w : Write) → HaveKeysOnce ws → slice_get ws i ≡ Some w → write_among ws w.key ≡ Some w
 once_at [] i w once at = none_some w at
 once_at (x ∷ xs) zero w once at = ap (λ b. if b then Some x else write_among xs w.key) (ap (same_key w.key) (ap (λ (y : Write). y.key) (write_is x w at)) ∙ same_key_self w.key) ∙ at
-once_at (x ∷ xs) (suc i) w once at = by (same_key_tells w.key x.key) (once_at xs i w once.1 at)
+once_at (x ∷ xs) (suc i) w once at = by (same_key_decides w.key x.key) (once_at xs i w once.1 at)
   where
     by : ((same_key w.key x.key ≡ true) × (w.key ≡ x.key)) ⊎ ((same_key w.key x.key ≡ false) × (w.key ≢ x.key)) → write_among xs w.key ≡ Some w → write_among (x ∷ xs) w.key ≡ Some w
     by (inl y) ih = absurd (unwritten_other xs i x.key w once.0 at y.1)
@@ -62,7 +62,7 @@ once_at (x ∷ xs) (suc i) w once at = by (same_key_tells w.key x.key) (once_at 
 
 pub found_at : (ws : List Write) (k : Key) (w : Write) → write_among ws k ≡ Some w → (i : ℕ) × (slice_get ws i ≡ Some w) × (k ≡ w.key)
 found_at [] k w h = none_some w h
-found_at (x ∷ xs) k w h = by (same_key_tells k x.key) (found_at xs k w)
+found_at (x ∷ xs) k w h = by (same_key_decides k x.key) (found_at xs k w)
   where
     by : ((same_key k x.key ≡ true) × (k ≡ x.key)) ⊎ ((same_key k x.key ≡ false) × (k ≢ x.key)) → (write_among xs k ≡ Some w → (i : ℕ) × (slice_get xs i ≡ Some w) × (k ≡ w.key)) → (i : ℕ) × (slice_get (x ∷ xs) i ≡ Some w) × (k ≡ w.key)
     by (inl e) ih =
@@ -115,13 +115,13 @@ module _ (catalog : List Table) (apart : IsApart catalog) (start : Database) (p 
 
   -- a write's key is none of the coordinator's
   pub not_row : (i : ℕ) (w : Write) → slice_get p.writes i ≡ Some w → same_key w.key row ≡ false
-  not_row i w at = elim (same_key_tells w.key row) [
+  not_row i w at = elim (same_key_decides w.key row) [
     | inl e ↦ false_true (sym (apart w.key (based_at i w at).listed) ∙ ap (λ x. is_coordinator_table x.table) e.1 ∙ coordinators p.id)
     | inr n ↦ n.0
   ]
 
   pub row_not : (i : ℕ) (w : Write) → slice_get p.writes i ≡ Some w → same_key row w.key ≡ false
-  row_not i w at = elim (same_key_tells row w.key) [
+  row_not i w at = elim (same_key_decides row w.key) [
     | inl e ↦ false_true (sym (apart w.key (based_at i w at).listed) ∙ ap (λ x. is_coordinator_table x.table) (sym e.1) ∙ coordinators p.id)
     | inr n ↦ n.0
   ]
@@ -146,14 +146,14 @@ module _ (catalog : List Table) (apart : IsApart catalog) (start : Database) (p 
       row_stays = now row ∙ ap (λ b. if b then new else g row) (row_not i w at)
 
       pub others_stay : OthersUnchanged p start g → OthersUnchanged p start h
-      others_stay others k free other = by (same_key_tells k w.key)
+      others_stay others k free other = by (same_key_decides k w.key)
         where
           by : ((same_key k w.key ≡ true) × (k ≡ w.key)) ⊎ ((same_key k w.key ≡ false) × (k ≢ w.key)) → h k ≡ start k
           by (inl e) = false_true (sym free ∙ ap (is_written p.writes) e.1 ∙ ap is_some (once_at p.writes i w work.once at))
           by (inr n) = now k ∙ ap (λ b. if b then new else g k) n.0 ∙ others k free other
 
       pub each_write : (P : Write → Option Record → Type 0) → P w new → EachWrite p P g → EachWrite p P h
-      each_write P here each j v there_at = by (same_key_tells v.key w.key)
+      each_write P here each j v there_at = by (same_key_decides v.key w.key)
         where
           by : ((same_key v.key w.key ≡ true) × (v.key ≡ w.key)) ⊎ ((same_key v.key w.key ≡ false) × (v.key ≢ w.key)) → P v (h v.key)
           by (inl e) =

@@ -18,7 +18,7 @@ number c k = (id_of c (suc k)).0
 -- that was answered; Unknown names it.
 pub record IsFiledAt (past : List Labelled) (t : ℕ) (f : Finished) : Type 0 where
   pub begun : (protocol_state past).begun t ≡ f.begin.accepted
-  pub accepted : (protocol_state past).accepted t ≡ true → (reads_commit f.last.text ≡ true) × (f.last.accepted ≡ (protocol_state past).taken_at t)
+  pub accepted : (protocol_state past).accepted t ≡ true → (reads_commit f.last.text ≡ true) × (f.last.accepted ≡ (protocol_state past).accepted_at t)
   pub answered : f.last.answer ≡ Some answer.Committed → IsAnsweredCommittedAt past t f.last.reached
   pub denied : (a : Answer) → f.last.answer ≡ Some a → is_denial a ≡ true → (protocol_state past).accepted t ≡ true → IsDenied past t
   pub unknown : (u : TxId) → f.last.answer ≡ Some (answer.Unknown u) → u ≡ id t

@@ -57,7 +57,7 @@ abbrev pub OpenFiled : List Labelled → ℕ → ClientHistory → Rest → Type
 OpenFiled past c x (Closed gap) = Unit {0}
 OpenFiled past c x (Opened gap b body) =
     ((protocol_state past).begun (number c (length x.whole)) ≡ b.accepted)
-    × ((protocol_state past).accepted (number c (length x.whole)) ≡ true → (s : Executed) × (x.waiting ≡ Some s) × (reads_commit s.text ≡ true) × (s.accepted ≡ (protocol_state past).taken_at (number c (length x.whole))))
+    × ((protocol_state past).accepted (number c (length x.whole)) ≡ true → (s : Executed) × (x.waiting ≡ Some s) × (reads_commit s.text ≡ true) × (s.accepted ≡ (protocol_state past).accepted_at (number c (length x.whole))))
 
 -- a transaction is open
 abbrev pub IsOpened : Rest → Type 0

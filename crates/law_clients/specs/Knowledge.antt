@@ -46,7 +46,7 @@ StartsCommitWith k c text p = SystemOk (with_plan k.plan p) (take_labelled c tex
 pub record MayBegin (sys : SystemAt) (c : ℕ) (text : List ℕ) : Type 0 where
   pub rests : sys.clients c ≡ Resting
   pub begins : IsBegin sys c text
-  pub none_sweeps : NoneRunVacuum sys
+  pub none_run_vacuum : NoneRunVacuum sys
 
 -- the clients once it has
 abbrev pub with_opened : SystemAt → ℕ → SystemAt

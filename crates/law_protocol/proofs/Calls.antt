@@ -8,7 +8,7 @@ use Rattle.sdb_types.specs.declared.record.Reply.TheVariants as reply
 use Rattle.sdb_types.specs.Contents.{Contents, record_at, record_of, in_span, is_partition, holds, put_reply, reply_to, after}
 use Rattle.sdb_types.specs.Exact.{equal_of}
 use Rattle.sdb_types.specs.Order.{table_cmp, same_key}
-use Rattle.sdb_types.proofs.Public.{and_false, and_first, same_key_tells, same_rows, table_exact}
+use Rattle.sdb_types.proofs.Public.{and_false, and_first, same_key_decides, same_rows, table_exact}
 use Rattle.sdb_model.specs.declared.event.How.TheVariants.{Seen}
 use Rattle.sdb_model.specs.Rows.{Name}
 use Rattle.sdb_model.specs.Events.{StoreContents, store_of, table_asked, IsCall}
@@ -53,7 +53,7 @@ same_after (ask.DeleteIf key condition) h m s k e =
     ∙ sym (after_delete key condition m k)
 
 key_apart : (k other : Key) → k.table.ns ≢ other.table.ns → same_key k other ≡ false
-key_apart k other n = elim (same_key_tells k other) [ inl e ↦ absurd (n (ap (λ (x : Key). x.table.ns) e.1)) | inr f ↦ f.0 ]
+key_apart k other n = elim (same_key_decides k other) [ inl e ↦ absurd (n (ap (λ (x : Key). x.table.ns) e.1)) | inr f ↦ f.0 ]
 
 -- and leaves the records of other namespaces
 pub left_apart : (q : Request) (m : Contents) (k : Key) → k.table.ns ≢ (table_asked q).ns → record_at (after q m) k ≡ record_at m k

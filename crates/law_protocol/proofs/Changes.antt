@@ -17,7 +17,7 @@ use Rattle.law_protocol.specs.Lawful.{IsCallOf}
 use Rattle.law_protocol.specs.Trace.{takes_effect_at, take_effect, has_effect}
 use Rattle.law_protocol.specs.Changed.{Change, Changed, AreSelfless, changes_of, changes_in, keys_of}
 use Rattle.law_protocol.proofs.Effects.{AtCall, at_call}
-use Rattle.law_protocol.proofs.Shown.{read_leaves}
+use Rattle.law_protocol.proofs.Observed.{read_leaves}
 use Rattle.law_protocol.proofs.Writes.{IsWritten, put_written, delete_written}
 use Rattle.sdb_types.specs.Replies.{is_answered}
 

@@ -35,15 +35,15 @@ use Rattle.law_protocol.specs.Faithful.{AreReadSets, IsFaithful}
 use Rattle.law_protocol.proofs.Canon.{firm_writer, version_state, not_firm_version}
 use Rattle.law_protocol.proofs.Allowed.{Allowed}
 use Rattle.law_protocol.proofs.Small.{any_key, row_kept, decided_kept}
-use Rattle.law_protocol.proofs.Known.{held_key, taken_fits, writer_taken, writes_it}
+use Rattle.law_protocol.proofs.Known.{held_key, accepted_fits, writer_accepted, writes_it}
 use Rattle.law_protocol.proofs.Effects.{at_call}
-use Rattle.law_protocol.proofs.Shown.{get_reply, scan_reply}
+use Rattle.law_protocol.proofs.Observed.{get_reply, scan_reply}
 use Rattle.law_protocol.proofs.Whole.{Whole}
 use Rattle.law_protocol.proofs.Derived.{image_is_last_writer, reads_current, recorded_row, row_recorded}
 use Rattle.law_protocol.proofs.Times.{whole_of, lasts}
 use Rattle.law_protocol.proofs.Seen.{All as Holds}
 use Rattle.law_protocol.proofs.ModelTime.{point_of}
-use Rattle.law_protocol.proofs.Moments.{IsApart, IsCut, apart_from, at_cut, cut, early_run, moment_at, open_put, put_after, stands_at, took_of, trace_length, turned_append, turned_length}
+use Rattle.law_protocol.proofs.Moments.{IsApart, IsCut, apart_from, at_cut, cut, early_run, moment_at, open_put, put_after, lies_at, took_of, trace_length, turned_append, turned_length}
 use Rattle.law_protocol.proofs.Unchecked.{got}
 use Rattle.sdb_types.proofs.Public.{clash, some_is, tests}
 use Rattle.sdb_model.specs.Tables.{is_data}
@@ -169,7 +169,7 @@ unchanged_at plan places opening labelled moments catalog r none front back clie
         less a b n e = omega (arith, e)
 
     agrees : stored_at places (moment opening moments (length front)) x.key ≡ Some x
-    agrees = stands_at labelled moments catalog (length front) r none below id x before fits (subst (IsTableKey catalog) (sym at) table) early p no_row
+    agrees = lies_at labelled moments catalog (length front) r none below id x before fits (subst (IsTableKey catalog) (sym at) table) early p no_row
 
 ---- who wrote a key
 
@@ -299,7 +299,7 @@ module _ (plan : ℕ → Plan) (places : List Place) (opening : List StoreConten
       by None e = absurd (late (λ h. some_none Committed (sym h ∙ e)))
 
   fits_of : (key : Key) (u : ℕ) → IsWriter plan w key u → u < 2 ^ 128
-  fits_of key u h = taken_fits w u i.all.one.begun i.knows.fits (writer_taken plan w key u i.all.one.accepted h)
+  fits_of key u h = accepted_fits w u i.all.one.begun i.knows.fits (writer_accepted plan w key u i.all.one.accepted h)
 
   to_held : (key : Key) (u : TxId) → is_data key ≡ true → (x : model.IsWriter places events opening moments key u) → (w.took_effect u.0 key ≡ true) × (x.r ≡ record_prepared_by plan u.0 key)
   to_held key u kept x =

@@ -22,7 +22,7 @@ use Rattle.law_protocol.specs.Explained.{RecordedIsPut, IsPreparedRecord, Unreso
 use Rattle.law_protocol.proofs.Cover.{Inv}
 use Rattle.law_protocol.proofs.Seen.{All, IsSeen}
 use Rattle.law_protocol.proofs.Canon.{held_writer, held_open, firm_writer, firm_committed, same_writer}
-use Rattle.law_protocol.proofs.Known.{held_before, taken_fits, took_is_taken}
+use Rattle.law_protocol.proofs.Known.{held_before, accepted_fits, took_is_accepted}
 use Rattle.law_protocol.proofs.Settled.{Knows, forward_at}
 use Rattle.law_protocol.proofs.Moves.{writer_fits}
 use Rattle.law_protocol.proofs.Whole.{Whole}
@@ -76,7 +76,7 @@ unresolved_prepared plan places w past store_contents i k r outside at open_stat
     by (Some (Held t)) e h =
         let took_effect = i.all.one.held k t e in
         let same = sym (some_is (record_prepared_by plan t k) r h) in
-        record { t = t; writer = ap (λ (x : Record). id_in x.columns) same ∙ held_writer plan t k (taken_fits w t i.all.one.begun i.knows.fits (took_is_taken w t k i.all.one.accepted took_effect)); took_effect = took_effect; same = same }
+        record { t = t; writer = ap (λ (x : Record). id_in x.columns) same ∙ held_writer plan t k (accepted_fits w t i.all.one.begun i.knows.fits (took_is_accepted w t k i.all.one.accepted took_effect)); took_effect = took_effect; same = same }
 
 pub committed_is_canon : (plan : ℕ → Plan) (places : List Place) (w : History) (past : List Labelled) (store_contents : List StoreContents) → Whole plan places w past store_contents → CommittedIsCanon plan places w store_contents
 committed_is_canon plan places w past store_contents i k r outside at firm = by (w.rows k) refl (sym (i.held.records k outside) ∙ at)
@@ -92,11 +92,11 @@ committed_is_canon plan places w past store_contents i k r outside at firm = by 
 
 pub took_data : (plan : ℕ → Plan) (w : History) (past : List Labelled) (t : ℕ) (k : Key) → Knows plan w past → w.took_effect t k ≡ true → is_data k ≡ true
 took_data plan w past t k knows took_effect =
-    let accepted = took_is_taken w t k knows.inv.accepted took_effect in
+    let accepted = took_is_accepted w t k knows.inv.accepted took_effect in
     ((knows.planned t accepted).write k (Rattle.law_protocol.specs.Records.write_there (plan t) k) (Rattle.law_protocol.proofs.Known.writes_it (plan t) k (knows.inv.asked t k ((knows.inv.took_effect t k).0 took_effect).0))).1
 
-pub prepared_stands : (plan : ℕ → Plan) (places : List Place) (w : History) (past : List Labelled) (store_contents : List StoreContents) → Whole plan places w past store_contents → PreparedPersists plan places w store_contents
-prepared_stands plan places w past store_contents i t k took_effect none = i.held.records k (took_data plan w past t k i.knows took_effect) ∙ ap (option_map (record_for plan k)) (i.all.one.agrees t k took_effect none)
+pub prepared_stay : (plan : ℕ → Plan) (places : List Place) (w : History) (past : List Labelled) (store_contents : List StoreContents) → Whole plan places w past store_contents → PreparedPersists plan places w store_contents
+prepared_stay plan places w past store_contents i t k took_effect none = i.held.records k (took_data plan w past t k i.knows took_effect) ∙ ap (option_map (record_for plan k)) (i.all.one.agrees t k took_effect none)
 
 apart_rows : (w : History) (t : ℕ) → w.row t ≡ Some Committed → w.row t ≡ Some Aborted → ⊥
 apart_rows w t a b = absurd (grind arith)
@@ -119,7 +119,7 @@ aborted_gone plan places w past store_contents i t k r aborted outside at = (fir
     held : (b : Record) → is_in state.Committed r.columns ≡ false → before_record r ≡ Some b → id_in b.columns ≢ Some (id t)
     held b is before e =
         let p = unresolved_prepared plan places w past store_contents i k r outside at is in
-        let accepted = took_is_taken w p.t k i.all.one.accepted p.took_effect in
+        let accepted = took_is_accepted w p.t k i.all.one.accepted p.took_effect in
         under p.t b (base_of (written (plan p.t) k)) accepted refl (sym before ∙ ap before_record p.same ∙ held_before plan p.t k (i.knows.planned p.t accepted) (i.all.one.asked p.t k ((i.all.one.took_effect p.t k).0 p.took_effect).0)) e
 
 ---- images
@@ -134,10 +134,10 @@ image_held plan places w past store_contents t k i e =
     took_effect = i.all.one.held k t e
 
     accepted : w.protocol.accepted t ≡ true
-    accepted = took_is_taken w t k i.all.one.accepted took_effect
+    accepted = took_is_accepted w t k i.all.one.accepted took_effect
 
     fits : t < 2 ^ 128
-    fits = taken_fits w t i.all.one.begun i.knows.fits accepted
+    fits = accepted_fits w t i.all.one.begun i.knows.fits accepted
 
     before : before_record (record_prepared_by plan t k) ≡ option_map (λ u. record_left_by plan u k) (base_of (written (plan t) k))
     before = held_before plan t k (i.knows.planned t accepted) (i.all.one.asked t k ((i.all.one.took_effect t k).0 took_effect).0)
@@ -308,7 +308,7 @@ reads_current plan w i t j k found r n = by (written (plan t) k) refl
 ---- the middle law
 
 pub middle : (plan : ℕ → Plan) (w : History) → All plan w → Middle plan w
-middle plan w i t v none accepted prepared recorded lt = record { writes = λ k h. writes k h (written (plan v) k) refl; read_set = λ j k h. read_set j k h (version_read_at (plan v) j k) refl; noted_by = noted_by }
+middle plan w i t v none accepted prepared recorded lt = record { writes = λ k h. writes k h (written (plan v) k) refl; read_set = λ j k h. read_set j k h (version_read_at (plan v) j k) refl; never_read = never_read }
   where
     mine : (k : Key) → written (plan t) k ≢ None → (w.took_effect t k ≡ true) × (w.prepared_at t k ≤ w.protocol.point t)
     mine k h = (i.one.took_effect t k).1 (prepared k h)
@@ -355,8 +355,8 @@ middle plan w i t v none accepted prepared recorded lt = record { writes = λ k 
         let a = mine k h in
         absurd (((i.reads v j k found checked e free).early t differ a.0 (below k (w.checked_at v j) a.1 (i.checked v j checked).2)).0 none)
 
-    noted_by : (j : ℕ) (k : Key) → version_read_at (plan t) j k ≢ Some (Some v)
-    noted_by j k n = cross (i.one.as_read t j k v accepted n).1
+    never_read : (j : ℕ) (k : Key) → version_read_at (plan t) j k ≢ Some (Some v)
+    never_read j k n = cross (i.one.as_read t j k v accepted n).1
       where
         cross : w.protocol.point v < w.protocol.point t → ⊥
         cross l = omega arith

@@ -7,7 +7,7 @@ use Rattle.law_protocol.specs.Types.{Condition, How, Key, Place, Record, Reply, 
 use Rattle.sdb_types.specs.declared.record.Request.TheVariants as ask
 use Rattle.sdb_types.specs.declared.record.Reply.TheVariants as reply
 use Rattle.sdb_types.specs.Contents.{Contents, record_at, record_of, holds, reply_to, after}
-use Rattle.sdb_types.proofs.Public.{key_total, same_key_tells}
+use Rattle.sdb_types.proofs.Public.{key_total, same_key_decides}
 use Rattle.sdb_types.specs.Order.{same_key}
 use Rattle.sdb_record.proofs.Public.{same_name-itself, same_name-true}
 use Rattle.sdb_model.specs.declared.event.How.TheVariants.{Seen, Lost, Discarded, Broken}
@@ -18,14 +18,14 @@ use Rattle.sdb_model.specs.Events.{StoreContents, contents_under, with_contents,
 
 pub at_insert : (m : Contents) (r : Record) (k : Key) → record_at (insert m r.key r.columns) k ≡ (if same_key k r.key then Some r else record_at m k)
 unfolding same_key
-at_insert m r k = elim (same_key_tells k r.key) [
+at_insert m r k = elim (same_key_decides k r.key) [
   | inl e ↦ rw e.0 (rw (get-insert key_total m r.key r.columns k) (rw e.0 (ap (λ x. Some (record_of (x, r.columns))) e.1)))
   | inr n ↦ rw n.0 (ap (option_map (λ columns. record_of (k, columns))) (get-insert key_total m r.key r.columns k ∙ ap (λ b. cond b (Some r.columns) (get m k)) n.0))
 ]
 
 pub at_remove : (m : Contents) (key k : Key) → record_at (remove m key) k ≡ (if same_key k key then None else record_at m k)
 unfolding same_key
-at_remove m key k = elim (same_key_tells k key) [
+at_remove m key k = elim (same_key_decides k key) [
   | inl e ↦ rw e.0 (ap (option_map (λ columns. record_of (k, columns))) (get-remove key_total m key k ∙ ap (λ b. cond b None (get m k)) e.0))
   | inr n ↦ rw n.0 (ap (option_map (λ columns. record_of (k, columns))) (get-remove key_total m key k ∙ ap (λ b. cond b None (get m k)) n.0))
 ]

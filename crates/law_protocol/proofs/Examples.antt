@@ -21,7 +21,7 @@ use Rattle.law_protocol.specs.Worked.{account, one, two, three, inserts, updates
 use Rattle.law_protocol.proofs.Canon.{version_state, not_firm_version}
 use Rattle.law_protocol.proofs.Reading.{noted_got}
 use Rattle.law_protocol.proofs.Texts.{begin_begins, commit_commits}
-use Rattle.sdb_types.proofs.Public.{clash, same_key_self, same_key_tells}
+use Rattle.sdb_types.proofs.Public.{clash, same_key_self, same_key_decides}
 use Rattle.sdb_types.specs.Order.{same_key}
 use Rattle.sdb_model.specs.Tables.{is_data}
 
@@ -29,7 +29,7 @@ use Rattle.sdb_model.specs.Tables.{is_data}
 
 pub only_write : (plan : Plan) (x : Write) (k : Key) (w : Write) → plan.writes ≡ x ∷ [] → write_at plan k ≡ Some w → (w ≡ x) × (k ≡ x.key)
 unfolding write_at
-only_write plan x k w e h = by (same_key_tells k x.key) (sym (ap (λ ws. Rattle.std.specs.Prelude.find (λ (y : Write). same_key k y.key) ws) e) ∙ h)
+only_write plan x k w e h = by (same_key_decides k x.key) (sym (ap (λ ws. Rattle.std.specs.Prelude.find (λ (y : Write). same_key k y.key) ws) e) ∙ h)
   where
     some_is : (a b : Write) → Some a ≡ Some b → b ≡ a
     some_is a b e = cc

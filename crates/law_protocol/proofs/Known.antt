@@ -138,14 +138,14 @@ known_closed plan w t x known = record {
 
 ---- it is known when it is shown
 
-pub taken_fits : (w : History) (t : ℕ) → BegunOk w → ((u : ℕ) → w.protocol.begun u ≢ 0 → u < 2 ^ 128) → w.protocol.accepted t ≡ true → t < 2 ^ 128
-taken_fits w t begun fits h = fits t ((begun t).1 h).0
+pub accepted_fits : (w : History) (t : ℕ) → BegunOk w → ((u : ℕ) → w.protocol.begun u ≢ 0 → u < 2 ^ 128) → w.protocol.accepted t ≡ true → t < 2 ^ 128
+accepted_fits w t begun fits h = fits t ((begun t).1 h).0
 
-pub writer_taken : (plan : ℕ → Plan) (w : History) (k : Key) (t : ℕ) → TakenOk w → IsWriter plan w k t → w.protocol.accepted t ≡ true
-writer_taken plan w k t accepted h = grind (arith, accepted t k 0, h)
+pub writer_accepted : (plan : ℕ → Plan) (w : History) (k : Key) (t : ℕ) → TakenOk w → IsWriter plan w k t → w.protocol.accepted t ≡ true
+writer_accepted plan w k t accepted h = grind (arith, accepted t k 0, h)
 
-pub took_is_taken : (w : History) (t : ℕ) (k : Key) → TakenOk w → w.took_effect t k ≡ true → w.protocol.accepted t ≡ true
-took_is_taken w t k accepted h = grind (arith, accepted t k 0)
+pub took_is_accepted : (w : History) (t : ℕ) (k : Key) → TakenOk w → w.took_effect t k ≡ true → w.protocol.accepted t ≡ true
+took_is_accepted w t k accepted h = grind (arith, accepted t k 0)
 
 pub known_now : (plan : ℕ → Plan) (places : List Place) (w : History) (store_contents : List StoreContents) (r : Record) → Inv plan w → ((u : ℕ) → w.protocol.begun u ≢ 0 → u < 2 ^ 128) → ContainsHistory plan places w store_contents → stored_at places store_contents r.key ≡ Some r → Known plan w r
 known_now plan places w store_contents r i fits held here = record {
@@ -158,8 +158,8 @@ known_now plan places w store_contents r i fits held here = record {
 
     by : (s : Option Standing) → w.rows r.key ≡ s → option_map (record_for plan r.key) s ≡ Some r → IsFirmOf plan w r.key r ⊎ IsHeldOf plan w r.key r
     by None h e = absurd (cc)
-    by (Some (Final t)) h e = let writer = i.firm r.key t h in inl (record { t = t; same = some_is (record_left_by plan t r.key) r e; writer = writer; fits = taken_fits w t i.begun fits (writer_taken plan w r.key t i.accepted writer) })
-    by (Some (Held t)) h e = let took_effect = i.held r.key t h in inr (record { t = t; same = some_is (record_prepared_by plan t r.key) r e; took_effect = took_effect; fits = taken_fits w t i.begun fits (took_is_taken w t r.key i.accepted took_effect) })
+    by (Some (Final t)) h e = let writer = i.firm r.key t h in inl (record { t = t; same = some_is (record_left_by plan t r.key) r e; writer = writer; fits = accepted_fits w t i.begun fits (writer_accepted plan w r.key t i.accepted writer) })
+    by (Some (Held t)) h e = let took_effect = i.held r.key t h in inr (record { t = t; same = some_is (record_prepared_by plan t r.key) r e; took_effect = took_effect; fits = accepted_fits w t i.begun fits (took_is_accepted w t r.key i.accepted took_effect) })
 
 ---- what follows from it
 

@@ -10,7 +10,7 @@ mod Writes
 mod Canon
 mod Known
 mod Settled
-mod Shown
+mod Observed
 mod Changes
 mod Links
 mod Moves
@@ -32,7 +32,7 @@ mod Unchecked
 mod Current
 mod Moved
 mod Followed
-mod Told
+mod SerialOnStores
 mod Calls
 mod Traces
 mod Single

@@ -6,7 +6,7 @@ use Rattle.std.specs.List.{AllByRecursion}
 use Rattle.law_protocol.specs.Types.{Condition, Decision, Key, Place, Record, TxId}
 use Rattle.sdb_record.specs.Coordinator.{coordinator_key_of, coordinator_row_of, id_of_key}
 use Rattle.sdb_types.specs.Order.{same_key}
-use Rattle.sdb_types.proofs.Public.{clash, same_key_of, same_key_self, same_key_tells, tests}
+use Rattle.sdb_types.proofs.Public.{clash, same_key_of, same_key_self, same_key_decides, tests}
 use Rattle.sdb_record.proofs.Public.{key-of-id}
 use Rattle.sdb_model.specs.Events.{StoreContents, stored_at}
 use Rattle.law_protocol.specs.Plan.{Plan}
@@ -24,20 +24,20 @@ unfolding coordinator_key_of
 row_is_no_data t = refl
 
 pub row_apart : (k : Key) (t : ℕ) → is_data k ≡ true → same_key (coordinator_key_of (id t)) k ≡ false
-row_apart k t h = elim (same_key_tells (coordinator_key_of (id t)) k) [
+row_apart k t h = elim (same_key_decides (coordinator_key_of (id t)) k) [
   | inl e ↦ clash (sym h ∙ ap is_data (sym e.1) ∙ row_is_no_data t)
   | inr n ↦ n.0
 ]
 
 pub data_apart : (k : Key) (t : ℕ) → is_data k ≡ true → same_key k (coordinator_key_of (id t)) ≡ false
-data_apart k t h = elim (same_key_tells k (coordinator_key_of (id t))) [
+data_apart k t h = elim (same_key_decides k (coordinator_key_of (id t))) [
   | inl e ↦ clash (sym h ∙ ap is_data e.1 ∙ row_is_no_data t)
   | inr n ↦ n.0
 ]
 
 -- rows of two transactions are at two keys
 pub rows_apart : (t u : ℕ) → t < 2 ^ 128 → u < 2 ^ 128 → same_key (coordinator_key_of (id t)) (coordinator_key_of (id u)) ≡ (t == u)
-rows_apart t u a b = elim (same_key_tells (coordinator_key_of (id t)) (coordinator_key_of (id u))) [
+rows_apart t u a b = elim (same_key_decides (coordinator_key_of (id t)) (coordinator_key_of (id u))) [
   | inl e ↦ e.0 ∙ sym (same t u (some_number (sym (key-of-id (id t) a) ∙ ap id_of_key e.1 ∙ key-of-id (id u) b)))
   | inr n ↦ n.0 ∙ sym (other t u (λ e. n.1 (ap (λ x. coordinator_key_of (id x)) e)))
 ]

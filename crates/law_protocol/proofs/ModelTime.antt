@@ -16,7 +16,7 @@ use Rattle.law_protocol.specs.Explained.{IsRunOf, newest_first, events_of}
 use Rattle.law_protocol.specs.Faithful.{IsAnsweredCommittedAt, IsFaithful, AnswersAreTrue}
 use Rattle.sdb_model.specs.declared.answer.Answer.TheVariants as answer
 use Rattle.law_protocol.specs.Serial.{IsIn, AllAbove, IsRising, IsOrdered}
-use Rattle.law_protocol.proofs.Known.{taken_fits}
+use Rattle.law_protocol.proofs.Known.{accepted_fits}
 use Rattle.law_protocol.proofs.Allowed.{Allowed}
 use Rattle.law_protocol.proofs.Small.{row_kept, decided_kept, any_key}
 use Rattle.law_protocol.proofs.Seen.{All as Holds}
@@ -242,7 +242,7 @@ ordered_of {plan} {places} {opening} labelled {ss} order r faithful o fit = reco
     accepted t h = grind (arith, i.all.one.accepted t any_key 0)
 
     row_fits : (t : ℕ) → (history plan places opening (newest_first labelled) ss).row t ≡ Some Committed → t < 2 ^ 128
-    row_fits t h = taken_fits (history plan places opening (newest_first labelled) ss) t i.all.one.begun i.knows.fits (accepted t h)
+    row_fits t h = accepted_fits (history plan places opening (newest_first labelled) ss) t i.all.one.begun i.knows.fits (accepted t h)
 
     among : (t : ℕ) → t < 2 ^ 128 → (history plan places opening (newest_first labelled) ss).row t ≡ Some Committed → IsAt (id t) order
     among t fits h = let c = (o.recorded (id t) fits).1 (row_recorded plan places (history plan places opening (newest_first labelled) ss) (newest_first labelled) (closing opening ss) t i fits h) in at_of order (id t) c.0 c.1 c.2

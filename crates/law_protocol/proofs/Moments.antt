@@ -29,10 +29,10 @@ use Rattle.law_protocol.specs.Trace.{closing, history, has_effect, after_end, Is
 use Rattle.law_protocol.specs.Records.{record_prepared_by, record_for, row_for}
 use Rattle.law_protocol.specs.Explained.{IsRunOf, IsPreparedRecord, newest_first, events_of}
 use Rattle.law_protocol.proofs.Canon.{same_writer}
-use Rattle.law_protocol.proofs.Known.{held_key, taken_fits, took_is_taken, took_stays}
+use Rattle.law_protocol.proofs.Known.{held_key, accepted_fits, took_is_accepted, took_stays}
 use Rattle.law_protocol.proofs.Moves.{held_is}
 use Rattle.law_protocol.proofs.Whole.{Whole}
-use Rattle.law_protocol.proofs.Derived.{decision_is, committed_is_canon, aborted_gone, unresolved_prepared, prepared_stands, took_data}
+use Rattle.law_protocol.proofs.Derived.{decision_is, committed_is_canon, aborted_gone, unresolved_prepared, prepared_stay, took_data}
 use Rattle.law_protocol.proofs.Times.{whole_of, front_run, lasts, stood_before, rows_final}
 use Rattle.law_protocol.proofs.Points.{held_prepares, firm_no}
 use Rattle.sdb_types.specs.Contents.{is_version}
@@ -243,7 +243,7 @@ put_is plan places opening early p es s t ks k word r action among done = record
         (rows_put plan (history plan places opening early es) t ks k word p.ends among))
 
     fits : t < 2 ^ 128
-    fits = taken_fits w t i.all.one.begun i.knows.fits (took_is_taken w t k i.all.one.accepted put.1)
+    fits = accepted_fits w t i.all.one.begun i.knows.fits (took_is_accepted w t k i.all.one.accepted put.1)
 
     key : (record_prepared_by plan t k).key ≡ k
     key = held_key plan t k (i.knows.inv.asked t k ((i.knows.inv.took_effect t k).0 put.1).0)
@@ -376,7 +376,7 @@ no_row w t h = by (w.row t) refl h
 
 agrees : (plan : ℕ → Plan) (places : List Place) (opening : List StoreContents) (front back : List Labelled) (ms more : List (List StoreContents)) (catalog : List Table) → length front ≡ length ms → length back ≡ length more → IsRunOf plan places opening (newest_first (front ++ back)) (newest_first (ms ++ more)) → IsApart catalog → PreparedPersists catalog places (events_of (front ++ back)) opening (ms ++ more) (length ms)
 agrees plan places opening front back ms more catalog even same r apart t x before fits table below p none =
-    ap (λ y. stored_at places y x.key) (moment_at opening ms more) ∙ prepared_stands plan places (history plan places opening (newest_first front) (newest_first ms)) (newest_first front) (closing opening (newest_first ms)) whole t.0 x.key took_effect.0 row ∙ ap (λ y. Some y) (sym took_effect.1)
+    ap (λ y. stored_at places y x.key) (moment_at opening ms more) ∙ prepared_stay plan places (history plan places opening (newest_first front) (newest_first ms)) (newest_first front) (closing opening (newest_first ms)) whole t.0 x.key took_effect.0 row ∙ ap (λ y. Some y) (sym took_effect.1)
   where
     n : ℕ
     n = suc (length before)
@@ -482,8 +482,8 @@ unresolved_at {plan} {places} {opening} labelled moments catalog n r none h =
     (subst (λ y. UnresolvedPrepared catalog places (events_of y) opening (take n moments ++ drop n moments) (length (take n moments))) (take-append-drop n labelled)
     (unresolved plan places opening (take n labelled) (drop n labelled) (take n moments) (drop n moments) catalog c.same c.whole (apart_from catalog none))))
 
-pub stands_at : {plan : ℕ → Plan} {places : List Place} {opening : List StoreContents} (labelled : List Labelled) (moments : List (List StoreContents)) (catalog : List Table) (n : ℕ) → IsRunOf plan places opening (newest_first labelled) (newest_first moments) → find_table catalog coordinator_table ≡ None → n ≤ length moments → PreparedPersists catalog places (events_of labelled) opening moments n
-stands_at {plan} {places} {opening} labelled moments catalog n r none h =
+pub lies_at : {plan : ℕ → Plan} {places : List Place} {opening : List StoreContents} (labelled : List Labelled) (moments : List (List StoreContents)) (catalog : List Table) (n : ℕ) → IsRunOf plan places opening (newest_first labelled) (newest_first moments) → find_table catalog coordinator_table ≡ None → n ≤ length moments → PreparedPersists catalog places (events_of labelled) opening moments n
+lies_at {plan} {places} {opening} labelled moments catalog n r none h =
     let c = cut plan places opening labelled moments n r h in
     subst (PreparedPersists catalog places (events_of labelled) opening moments) c.size
     (subst (λ y. PreparedPersists catalog places (events_of labelled) opening y (length (take n moments))) (take-append-drop n moments)

@@ -79,14 +79,14 @@ says_moved at c ss n (event.Stop i) = refl
 says_moved at c ss n (event.Clock m) = refl
 says_moved at c ss n (event.Idle i) = refl
 
-pub said_moved : (at : Name → Name) (c : ℕ) (events : List Event) → statements_by c (relocated_events at events) ≡ statements_by c events
-said_moved at c events = numbers_moved (statements_after c) (relocated_event at) (says_moved at c) [] 1 events
+pub executed_moved : (at : Name → Name) (c : ℕ) (events : List Event) → statements_by c (relocated_events at events) ≡ statements_by c events
+executed_moved at c events = numbers_moved (statements_after c) (relocated_event at) (says_moved at c) [] 1 events
 
 pub begun_moved : (at : Name → Name) (events : List Event) (id : TxId) → begun (relocated_events at events) id ≡ begun events id
-begun_moved at events id = ap (λ ss. option_map (λ (s : Executed). s.accepted) (first_of (from_begin (ordinal_of id) ss))) (said_moved at (client_of id) events)
+begun_moved at events id = ap (λ ss. option_map (λ (s : Executed). s.accepted) (first_of (from_begin (ordinal_of id) ss))) (executed_moved at (client_of id) events)
 
 pub body_moved : (at : Name → Name) (events : List Event) (id : TxId) → body (relocated_events at events) id ≡ body events id
-body_moved at events id = ap (λ ss. filter is_effective (take_while (λ s. not (ends s)) (rest_of (from_begin (ordinal_of id) ss)))) (said_moved at (client_of id) events)
+body_moved at events id = ap (λ ss. filter is_effective (take_while (λ s. not (ends s)) (rest_of (from_begin (ordinal_of id) ss)))) (executed_moved at (client_of id) events)
 
 -- a transaction's COMMIT among what its client said
 commit_among : TxId → List Executed → Option Executed
@@ -94,7 +94,7 @@ commit_among id ss = option_and_then (λ s. cond (reads_commit s.text) (Some s) 
 
 pub commit_moved : (at : Name → Name) (events : List Event) (id : TxId) → commit_of (relocated_events at events) id ≡ commit_of events id
 unfolding commit_among
-commit_moved at events id = ap (commit_among id) (said_moved at (client_of id) events)
+commit_moved at events id = ap (commit_among id) (executed_moved at (client_of id) events)
 
 ---- prepares
 

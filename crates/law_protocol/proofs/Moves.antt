@@ -24,7 +24,7 @@ use Rattle.law_protocol.proofs.Allowed.{Allowed}
 use Rattle.law_protocol.proofs.OneKey.{one_of}
 use Rattle.law_protocol.proofs.Canon.{held_writer, held_open, firm_writer, firm_committed, same_writer, not_open_version, not_firm_version}
 use Rattle.law_protocol.proofs.Changes.{Asks, HasChanged, called, put_call}
-use Rattle.law_protocol.proofs.Known.{written_some, write_is, held_key, taken_fits, writer_taken, took_is_taken}
+use Rattle.law_protocol.proofs.Known.{written_some, write_is, held_key, accepted_fits, writer_accepted, took_is_accepted}
 use Rattle.law_protocol.proofs.Settled.{Knows}
 use Rattle.law_protocol.proofs.Links.{link_write, link_row}
 use Rattle.sdb_types.proofs.Public.{clash, tests}
@@ -37,8 +37,8 @@ pub record Moves (plan : ℕ → Plan) (places : List Place) (w : History) (r : 
 ---- who is there
 
 fits_standing : (plan : ℕ → Plan) (w : History) (past : List Labelled) (k : Key) (t : ℕ) → Knows plan w past → (w.rows k ≡ Some (Final t)) ⊎ (w.rows k ≡ Some (Held t)) → t < 2 ^ 128
-fits_standing plan w past k t knows (inl e) = taken_fits w t knows.inv.begun knows.fits (writer_taken plan w k t knows.inv.accepted (knows.inv.firm k t e))
-fits_standing plan w past k t knows (inr e) = taken_fits w t knows.inv.begun knows.fits (took_is_taken w t k knows.inv.accepted (knows.inv.held k t e))
+fits_standing plan w past k t knows (inl e) = accepted_fits w t knows.inv.begun knows.fits (writer_accepted plan w k t knows.inv.accepted (knows.inv.firm k t e))
+fits_standing plan w past k t knows (inr e) = accepted_fits w t knows.inv.begun knows.fits (took_is_accepted w t k knows.inv.accepted (knows.inv.held k t e))
 
 -- what a version that holds says of what is there
 pub version_stands : (plan : ℕ → Plan) (w : History) (past : List Labelled) (k : Key) (v : Option ℕ) → Knows plan w past → ((u : ℕ) → v ≡ Some u → u < 2 ^ 128) → holds (condition_of (option_map id v)) (option_map (record_for plan k) (w.rows k)) ≡ true → has_version (w.rows k) v ≡ true
@@ -114,7 +114,7 @@ wanting_is word r e h = by r (ap is_out_of_memory_ack (sym e) ∙ h)
     by reply.Fault h = clash (sym h)
 
 pub writer_fits : (plan : ℕ → Plan) (w : History) (past : List Labelled) (k : Key) (u : ℕ) → Knows plan w past → IsWriter plan w k u → u < 2 ^ 128
-writer_fits plan w past k u knows h = taken_fits w u knows.inv.begun knows.fits (writer_taken plan w k u knows.inv.accepted h)
+writer_fits plan w past k u knows h = accepted_fits w u knows.inv.begun knows.fits (writer_accepted plan w k u knows.inv.accepted h)
 
 base_version : (plan : ℕ → Plan) (k : Key) (v : Option ℕ) → ((u : ℕ) → v ≡ Some u → u < 2 ^ 128) → version_of (option_map (λ u. record_left_by plan u k) v) ≡ option_map id v
 base_version plan k None f = refl
@@ -218,7 +218,7 @@ pub decide_moves : (plan : ℕ → Plan) (places : List Place) (w : History) (pa
     → Knows plan w past → ContainsHistory plan places w before → Effect places e before now → has_effect places e before now ≡ done → MayDecide plan past e t word → Moves plan places w (Decides t word) done now
 decide_moves plan places w past e before now t word done knows held effect is m =
     let alive = live w past m.client t knows.talks m.within in
-    let p = puts_row plan places w e m.client before now t Committed (plan t).now m.r word done (taken_fits w t knows.inv.begun knows.fits alive.0) held effect is m.call m.word_is in
+    let p = puts_row plan places w e m.client before now t Committed (plan t).now m.r word done (accepted_fits w t knows.inv.begun knows.fits alive.0) held effect is m.call m.word_is in
     record {
       allowed = (
         alive.0,

@@ -13,7 +13,7 @@ use Rattle.law_protocol.specs.Lawful.{Labelled}
 use Rattle.law_protocol.specs.Records.{write_there}
 use Rattle.law_protocol.specs.Explained.{IsLastWriter, IsNeverWritten, ImageOf, IsAsFound}
 use Rattle.law_protocol.specs.Serial.{IsIn, AllAbove, IsRising, IsOrdered, if_written, last_writer, row_left, ReadsSerial, RowsSerial}
-use Rattle.law_protocol.proofs.Known.{writes_it, writer_taken}
+use Rattle.law_protocol.proofs.Known.{writes_it, writer_accepted}
 use Rattle.law_protocol.proofs.Rolling.{firm_row}
 use Rattle.law_protocol.proofs.Derived.{image_is_last_writer, reads_current}
 use Rattle.law_protocol.proofs.Whole.{Whole}
@@ -203,5 +203,5 @@ rows_serial plan places w past store_contents order i o k outside = by (image_at
     by None (inl h) y n = never y n h
     by None (inr r) y n = sym (deleted_row plan r.u k r.deleted) ∙ ap (row_left plan k) (last_of_all plan w k order r.u y o r.last n)
     by (Some r) im y n =
-        let accepted = writer_taken plan w k im.0 i.all.one.accepted im.1.writer in
+        let accepted = writer_accepted plan w k im.0 i.all.one.accepted im.1.writer in
         ap row_of_image im.2 ∙ firm_row plan im.0 k ((i.knows.planned im.0 accepted).write k (write_there (plan im.0) k) (writes_it (plan im.0) k im.1.writer.1)).0 ∙ ap (row_left plan k) (last_of_all plan w k order im.0 y o im.1 n)

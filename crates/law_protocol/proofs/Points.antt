@@ -30,7 +30,7 @@ use Rattle.law_protocol.specs.Records.{write_there, record_prepared_by, record_l
 use Rattle.law_protocol.specs.Trace.{closing, history}
 use Rattle.law_protocol.specs.Explained.{IsRunOf, newest_first, events_of}
 use Rattle.law_protocol.proofs.Canon.{held_writer, firm_committed, not_open_version, same_writer}
-use Rattle.law_protocol.proofs.Known.{taken_fits, held_before}
+use Rattle.law_protocol.proofs.Known.{accepted_fits, held_before}
 use Rattle.law_protocol.proofs.Settled.{Knows, IsOwn, prepared_there}
 use Rattle.law_protocol.proofs.Moves.{held_is}
 use Rattle.law_protocol.proofs.Whole.{Whole, whole}
@@ -177,7 +177,7 @@ prepared_by plan places w past e before now (Prepares u (k ∷ []) word) t knows
     let accepted : w.protocol.accepted u ≡ true = subst (λ (x : ProtocolState). x.accepted u ≡ true) knows.talks m.within.accepted in
     let c = condition_of (version_of m.write.base) in
     ap (is_prepared_by (id t)) m.call.call
-    ∙ told_prepare places (id t) m.client m.call.store (ask.PutIf (prepared_record m.write (id u) (plan u).now) c) m.call.how m.r m.call.answer before now (t == u) (ap (λ x. prepares (id t) (ask.PutIf x c)) (held_is plan u k m.write m.at) ∙ held_prepares plan t u k c fits (taken_fits w u knows.inv.begun knows.fits accepted)) (subst (λ x. Effect places x before now) m.call.call effect)
+    ∙ told_prepare places (id t) m.client m.call.store (ask.PutIf (prepared_record m.write (id u) (plan u).now) c) m.call.how m.r m.call.answer before now (t == u) (ap (λ x. prepares (id t) (ask.PutIf x c)) (held_is plan u k m.write m.at) ∙ held_prepares plan t u k c fits (accepted_fits w u knows.inv.begun knows.fits accepted)) (subst (λ x. Effect places x before now) m.call.call effect)
     ∙ ap (λ x. (t == u) && is_yes x) (sym m.word_is)
 prepared_by plan places w past e before now (Prepares u [] word) t knows effect m fits = absurd m
 prepared_by plan places w past e before now (Prepares u (k ∷ l ∷ ks) word) t knows effect m fits = absurd m
@@ -222,7 +222,7 @@ last_snoc es e t = ap (fold (λ (found : Option ℕ) (x : ℕ × Event). if is_p
 record Counted (h : ProtocolState) (es : List Event) (t : ℕ) : Type 0 where
   now : h.now ≡ length es
   none : h.accepted t ≡ false → last_prepare es (id t) ≡ None
-  point : h.accepted t ≡ true → h.point t ≡ unwrap_or (last_prepare es (id t)) (h.taken_at t)
+  point : h.accepted t ≡ true → h.point t ≡ unwrap_or (last_prepare es (id t)) (h.accepted_at t)
 
 abbrev Asks : ProtocolState → Action → Type 0
 Asks h (Takes u) = h.accepted u ≡ false
@@ -230,8 +230,8 @@ Asks h (Prepares u k word) = h.accepted u ≡ true
 Asks h (Ends u) = ⊥
 Asks h _ = Unit {0}
 
-count : (h : ProtocolState) (r : Action) (t : ℕ) (last next : Option ℕ) → Asks h r → next ≡ (if tells_prepare t r then Some (1 + h.now) else last) → (h.accepted t ≡ false → last ≡ None) → (h.accepted t ≡ true → h.point t ≡ unwrap_or last (h.taken_at t))
-    → ((state_after_event h r).now ≡ h.now + 1) × ((state_after_event h r).accepted t ≡ false → next ≡ None) × ((state_after_event h r).accepted t ≡ true → (state_after_event h r).point t ≡ unwrap_or next ((state_after_event h r).taken_at t))
+count : (h : ProtocolState) (r : Action) (t : ℕ) (last next : Option ℕ) → Asks h r → next ≡ (if tells_prepare t r then Some (1 + h.now) else last) → (h.accepted t ≡ false → last ≡ None) → (h.accepted t ≡ true → h.point t ≡ unwrap_or last (h.accepted_at t))
+    → ((state_after_event h r).now ≡ h.now + 1) × ((state_after_event h r).accepted t ≡ false → next ≡ None) × ((state_after_event h r).accepted t ≡ true → (state_after_event h r).point t ≡ unwrap_or next ((state_after_event h r).accepted_at t))
 count h (Takes u) t last next a e none point = grind (arith, tests)
 count h (Prepares u k word) t last next a e none point = grind (arith, tests)
 count h (Ends u) t last next a e none point = absurd a
@@ -277,7 +277,7 @@ count_more plan places opening p past s ss t fits r c = over p.ends
         ∙ ap (λ b. if b then Some (1 + length (in_order past)) else last_prepare (in_order past) (id t)) (prepared_by plan places (history plan places opening past ss) past p.event (closing opening ss) s p.action t before.knows r.traced.1 r.lawful.1 fits)
         ∙ ap (λ n. if tells_prepare t p.action then Some (1 + n) else last_prepare (in_order past) (id t)) (sym c.now)
 
-    x : ((state_after_event (protocol_state past) p.action).now ≡ (protocol_state past).now + 1) × ((state_after_event (protocol_state past) p.action).accepted t ≡ false → last_prepare (in_order past ++ p.event ∷ []) (id t) ≡ None) × ((state_after_event (protocol_state past) p.action).accepted t ≡ true → (state_after_event (protocol_state past) p.action).point t ≡ unwrap_or (last_prepare (in_order past ++ p.event ∷ []) (id t)) ((state_after_event (protocol_state past) p.action).taken_at t))
+    x : ((state_after_event (protocol_state past) p.action).now ≡ (protocol_state past).now + 1) × ((state_after_event (protocol_state past) p.action).accepted t ≡ false → last_prepare (in_order past ++ p.event ∷ []) (id t) ≡ None) × ((state_after_event (protocol_state past) p.action).accepted t ≡ true → (state_after_event (protocol_state past) p.action).point t ≡ unwrap_or (last_prepare (in_order past ++ p.event ∷ []) (id t)) ((state_after_event (protocol_state past) p.action).accepted_at t))
     x = count (protocol_state past) p.action t (last_prepare (in_order past) (id t)) (last_prepare (in_order past ++ p.event ∷ []) (id t)) (asks plan past p.event p.action r.lawful.1) next c.none c.point
 
     numbered_now : (state_after_event (protocol_state past) p.action).now ≡ length (in_order past ++ p.event ∷ [])
@@ -306,7 +306,7 @@ order_onto acc (p ∷ labelled) = order_onto (p ∷ acc) labelled ∙ assoc (in_
     assoc [] e ys = refl
     assoc (x ∷ xs) e ys = ap (λ z. x ∷ z) (assoc xs e ys)
 
-pub point_is_last : (plan : ℕ → Plan) (places : List Place) (opening : List StoreContents) (labelled : List Labelled) (ss : List (List StoreContents)) (t : ℕ) → IsRunOf plan places opening (newest_first labelled) ss → t < 2 ^ 128 → (protocol_state (newest_first labelled)).accepted t ≡ true → (protocol_state (newest_first labelled)).point t ≡ unwrap_or (last_prepare (events_of labelled) (id t)) ((protocol_state (newest_first labelled)).taken_at t)
+pub point_is_last : (plan : ℕ → Plan) (places : List Place) (opening : List StoreContents) (labelled : List Labelled) (ss : List (List StoreContents)) (t : ℕ) → IsRunOf plan places opening (newest_first labelled) ss → t < 2 ^ 128 → (protocol_state (newest_first labelled)).accepted t ≡ true → (protocol_state (newest_first labelled)).point t ≡ unwrap_or (last_prepare (events_of labelled) (id t)) ((protocol_state (newest_first labelled)).accepted_at t)
 point_is_last plan places opening labelled ss t r fits accepted =
     (counted plan places opening (newest_first labelled) ss t fits r).point accepted
-    ∙ ap (λ es. unwrap_or (last_prepare es (id t)) ((protocol_state (newest_first labelled)).taken_at t)) (order_onto [] labelled)
+    ∙ ap (λ es. unwrap_or (last_prepare es (id t)) ((protocol_state (newest_first labelled)).accepted_at t)) (order_onto [] labelled)

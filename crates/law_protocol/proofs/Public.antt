@@ -4,20 +4,20 @@ pub use Rattle.law_protocol.proofs.Current.{current_at, stand_at, unchanged_at}
 pub use Rattle.law_protocol.proofs.Derived.{points_differ, recorded_row, row_recorded}
 pub use Rattle.law_protocol.proofs.Effects.{AtCall, after_delete, after_put, at_call, store_same}
 pub use Rattle.law_protocol.proofs.Followed.{follows_moved}
-pub use Rattle.law_protocol.proofs.Known.{IsPlanned, held_key, row_known, taken_fits, took_is_taken, write_key, writer_taken, writes_it}
+pub use Rattle.law_protocol.proofs.Known.{IsPlanned, held_key, row_known, accepted_fits, took_is_accepted, write_key, writer_accepted, writes_it}
 pub use Rattle.law_protocol.proofs.ModelTime.{answers_true, keeps_real_time, ordered_of, point_of, rest_rising}
-pub use Rattle.law_protocol.proofs.Moments.{apart_from, at_cut, committed_at, cut, early_run, gone_at, half, rows_at, stands_at, unresolved_at}
-pub use Rattle.law_protocol.proofs.Moved.{begun_moved, commit_moved, moved_more, point_moved, said_moved}
+pub use Rattle.law_protocol.proofs.Moments.{apart_from, at_cut, committed_at, cut, early_run, gone_at, half, rows_at, lies_at, unresolved_at}
+pub use Rattle.law_protocol.proofs.Moved.{begun_moved, commit_moved, moved_more, point_moved, executed_moved}
 pub use Rattle.law_protocol.proofs.Order.{reads_serial, rows_serial}
 pub use Rattle.law_protocol.proofs.Points.{firm_no}
 pub use Rattle.law_protocol.proofs.Rolling.{firm_row}
 pub use Rattle.law_protocol.proofs.Seen.{closed_still, open_before}
 pub use Rattle.law_protocol.proofs.Settled.{Knows, aborted_of, firm_of, prepared_there}
-pub use Rattle.law_protocol.proofs.Shown.{get_reply, row_there, scan_reply, span_table}
+pub use Rattle.law_protocol.proofs.Observed.{get_reply, row_there, scan_reply, span_table}
 pub use Rattle.law_protocol.proofs.Single.{Single, one_held, one_left, single}
 pub use Rattle.law_protocol.proofs.Small.{any_key}
 pub use Rattle.law_protocol.proofs.Texts.{begin_begins, commit_commits}
 pub use Rattle.law_protocol.proofs.Times.{traced_of, whole_of}
-pub use Rattle.law_protocol.proofs.Told.{one_standing, run_moved, run_relocated}
+pub use Rattle.law_protocol.proofs.SerialOnStores.{one_stored, run_relocated}
 pub use Rattle.law_protocol.proofs.Traces.{contents_of}
 pub use Rattle.law_protocol.proofs.Whole.{Whole, whole}

@@ -17,12 +17,12 @@ use Rattle.law_protocol.specs.Lawful.{Labelled, protocol_state, id, is_quiet, Is
 use Rattle.law_protocol.specs.Records.{record_left_by, ContainsHistory}
 use Rattle.law_protocol.proofs.Canon.{firm_writer, same_writer}
 use Rattle.law_protocol.proofs.Effects.{AtCall, at_call}
-use Rattle.law_protocol.proofs.Shown.{get_reply, scan_reply, read_leaves}
+use Rattle.law_protocol.proofs.Observed.{get_reply, scan_reply, read_leaves}
 use Rattle.law_protocol.proofs.Known.{IsPlanned, IsFirmOf, written_is}
 use Rattle.law_protocol.proofs.Settled.{Knows, firm_of as settled_of}
 use Rattle.law_protocol.proofs.Links.{link_same}
 use Rattle.law_protocol.proofs.Moves.{Moves, live, version_stands, writer_fits}
-use Rattle.sdb_types.proofs.Public.{clash, same_key_tells}
+use Rattle.sdb_types.proofs.Public.{clash, same_key_decides}
 use Rattle.sdb_types.specs.Order.{same_key}
 
 ---- checks
@@ -30,7 +30,7 @@ use Rattle.sdb_types.specs.Order.{same_key}
 -- what a noted get and a noted scan say of a key
 pub noted_got : (plan : Plan) (i : ℕ) (read : Read) (k : Key) (v : Option ℕ) → slice_get plan.read_set i ≡ Some (KeyRead read) → version_read_at plan i k ≡ Some v → (read.key ≡ k) × (v ≡ number_of read.version)
 unfolding version_read_at
-noted_got plan i read k v at h = by (same_key_tells read.key k) (sym (ap (λ o. option_map number_of (option_and_then (λ n. version_read n k) o)) at) ∙ h)
+noted_got plan i read k v at h = by (same_key_decides read.key k) (sym (ap (λ o. option_map number_of (option_and_then (λ n. version_read n k) o)) at) ∙ h)
   where
     some_is : (a b : Option ℕ) → Some a ≡ Some b → b ≡ a
     some_is a b e = cc

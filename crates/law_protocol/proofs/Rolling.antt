@@ -21,16 +21,16 @@ use Rattle.law_protocol.specs.Records.{write_there, record_prepared_by, record_l
 use Rattle.law_protocol.specs.Trace.{has_effect}
 use Rattle.law_protocol.proofs.Canon.{firm_writer, firm_committed, same_writer, not_open_version}
 use Rattle.law_protocol.proofs.Changes.{Asks, HasChanged, called, put_call, delete_call}
-use Rattle.law_protocol.proofs.Known.{IsPlanned, writes_it, held_before, firm_key, writer_taken}
+use Rattle.law_protocol.proofs.Known.{IsPlanned, writes_it, held_before, firm_key, writer_accepted}
 use Rattle.law_protocol.proofs.Settled.{Knows, firm_of as settled_of, forward_at, prepared_there, committed_of, aborted_of}
 use Rattle.law_protocol.proofs.Links.{link_write}
 use Rattle.law_protocol.proofs.Moves.{Moves, open_stands, firm_stands, writer_fits}
-use Rattle.sdb_types.proofs.Public.{clash, same_key_tells}
+use Rattle.sdb_types.proofs.Public.{clash, same_key_decides}
 use Rattle.sdb_types.specs.Order.{same_key}
 use Rattle.law_protocol.proofs.OneKey.{one_of}
 
 rolled_rows : (plan : ℕ → Plan) (w : History) (t : ℕ) (k : Key) (d : Decision) (b : Bool) (q : Key) → (happens plan w (Rolls t (k ∷ []) d) b).rows q ≡ (if b && same_key q k then rolled (plan t) t k d else w.rows q)
-rolled_rows plan w t k d true q = elim (same_key_tells q k) [
+rolled_rows plan w t k d true q = elim (same_key_decides q k) [
   | inl e ↦ rw e.0 (ap (λ y. rolled (plan t) t y d) e.1)
   | inr n ↦ rw n.0 refl
 ]
@@ -119,7 +119,7 @@ remove_moves plan places w past e before now t k done knows held effect is m =
     record {
       allowed = (
         writer,
-        tombstone_deletes plan t k (knows.planned t (writer_taken plan w k t knows.inv.accepted writer)) writer.1 tomb,
+        tombstone_deletes plan t k (knows.planned t (writer_accepted plan w k t knows.inv.accepted writer)) writer.1 tomb,
         λ h. firm_stands plan w past k t knows fits (subst (λ x. holds c x ≡ true) (held.records k m.outside) (dc.changed.held h).0),
         λ u l. clash (sym (stopped u l.0) ∙ l.1),
       );

@@ -13,7 +13,7 @@ use Rattle.law_protocol.specs.Lawful.{Labelled, protocol_state, IsObserved, IsPr
 use Rattle.law_protocol.specs.Records.{record_prepared_by, record_left_by}
 use Rattle.law_protocol.proofs.Cover.{Inv}
 use Rattle.law_protocol.proofs.Canon.{held_writer, held_open, firm_committed, same_writer}
-use Rattle.law_protocol.proofs.Known.{IsPlanned, IsFirmOf, IsHeldOf, Known, AreMoments, row_known, held_before, took_is_taken, taken_fits, writer_taken, writes_it}
+use Rattle.law_protocol.proofs.Known.{IsPlanned, IsFirmOf, IsHeldOf, Known, AreMoments, row_known, held_before, took_is_accepted, accepted_fits, writer_accepted, writes_it}
 use Rattle.sdb_types.proofs.Public.{clash}
 use Rattle.sdb_model.specs.Tables.{is_data}
 
@@ -49,7 +49,7 @@ held_shown plan w past t k r knows outside h = elim ((knows.observed r h.observe
         let took_effect : w.took_effect x.t k ≡ true = subst (λ y. w.took_effect x.t y ≡ true) h.key x.took_effect in
         record {
           same = rw e at;
-          accepted = rw e (took_is_taken w x.t k knows.inv.accepted took_effect);
+          accepted = rw e (took_is_accepted w x.t k knows.inv.accepted took_effect);
           writes = rw e (knows.inv.asked x.t k ((knows.inv.took_effect x.t k).0 took_effect).0);
           fits = rw e x.fits;
         }
@@ -83,7 +83,7 @@ firm_of plan w past k b knows outside (Back t r held same) =
 
     by : (t : ℕ) → w.protocol.accepted t ≡ true → (v : Option ℕ) → base_of (written (plan t) k) ≡ v → Some b ≡ option_map (λ u. record_left_by plan u k) v → IsFirmOf plan w k b
     by t accepted None h e = absurd (cc)
-    by t accepted (Some u) h e = let writer = knows.inv.base t k u accepted h in record { t = u; same = some_is b (record_left_by plan u k) e; writer = writer; fits = taken_fits w u knows.inv.begun knows.fits (writer_taken plan w k u knows.inv.accepted writer) }
+    by t accepted (Some u) h e = let writer = knows.inv.base t k u accepted h in record { t = u; same = some_is b (record_left_by plan u k) e; writer = writer; fits = accepted_fits w u knows.inv.begun knows.fits (writer_accepted plan w k u knows.inv.accepted writer) }
 
 -- what is rolled is what was prepared there
 pub prepared_there : (plan : ℕ → Plan) (w : History) (past : List Labelled) (t : ℕ) (k : Key) (r : Record) → Knows plan w past → is_data k ≡ true → IsPreparedThere plan past t k r → IsOwn plan w t k r
@@ -92,7 +92,7 @@ prepared_there plan w past t k r knows outside (inr h) =
     let asked : w.protocol.asked t k ≡ true = subst (λ (x : ProtocolState). x.asked t k ≡ true) knows.talks h.0 in
     let accepted = asked_taken asked in
     let writes = knows.inv.asked t k asked in
-    record { same = some_is r (record_prepared_by plan t k) (sym h.1 ∙ prepared_is plan t k writes); accepted = accepted; writes = writes; fits = taken_fits w t knows.inv.begun knows.fits accepted }
+    record { same = some_is r (record_prepared_by plan t k) (sym h.1 ∙ prepared_is plan t k writes); accepted = accepted; writes = writes; fits = accepted_fits w t knows.inv.begun knows.fits accepted }
   where
     some_is : (x y : Record) → Some x ≡ Some y → x ≡ y
     some_is x y e = cc

@@ -19,7 +19,7 @@ use Rattle.law_protocol.specs.Explained.{IsRunOf, RowsFinal, IsAnsweredCommitted
 use Rattle.law_protocol.proofs.Allowed.{Allowed}
 use Rattle.law_protocol.proofs.Small.{row_kept, point_fixed}
 use Rattle.law_protocol.proofs.Seen.{All, closed_still}
-use Rattle.law_protocol.proofs.Known.{held_before, moment_stays, row_stays, taken_fits}
+use Rattle.law_protocol.proofs.Known.{held_before, moment_stays, row_stays, accepted_fits}
 use Rattle.law_protocol.proofs.Settled.{Knows, committed_of, aborted_of}
 use Rattle.law_protocol.proofs.Moves.{Moves}
 use Rattle.law_protocol.proofs.Whole.{Whole, whole, moves}
@@ -86,7 +86,7 @@ told_recorded plan places opening (p ∷ past) (s ∷ ss) t r (inl h) =
     let m : MayAnswer plan past p = r.lawful.2 h.0 in
     let before = whole plan places opening past ss r.empty r.lawful.0 r.traced.0 in
     let now = whole_of plan places opening (p ∷ past) (s ∷ ss) r in
-    let fits = taken_fits (history plan places opening past ss) m.t before.all.one.begun before.knows.fits (subst (λ (x : Rattle.law_protocol.specs.History.ProtocolState). x.accepted m.t ≡ true) before.knows.talks m.accepted) in
+    let fits = accepted_fits (history plan places opening past ss) m.t before.all.one.begun before.knows.fits (subst (λ (x : Rattle.law_protocol.specs.History.ProtocolState). x.accepted m.t ≡ true) before.knows.talks m.accepted) in
     subst (λ x. (history plan places opening (p ∷ past) (s ∷ ss)).row x ≡ Some Committed) (some_is m.t t (sym m.ends ∙ h.1)) (committed_of plan (history plan places opening (p ∷ past) (s ∷ ss)) (p ∷ past) m.t m.moment now.knows fits m.known).0
   where
     some_is : (a b : ℕ) → Some a ≡ Some b → a ≡ b
@@ -229,7 +229,7 @@ denied_lost plan places opening past p s ss t r ends accepted why = by why
     was_taken = subst (λ (x : ProtocolState). x.accepted t ≡ true) before.knows.talks accepted
 
     fits : t < 2 ^ 128
-    fits = taken_fits (history plan places opening past ss) t before.all.one.begun before.knows.fits was_taken
+    fits = accepted_fits (history plan places opening past ss) t before.all.one.begun before.knows.fits was_taken
 
     closed : ((history plan places opening (p ∷ past) (s ∷ ss)).protocol.accepted t ≡ true) × ((history plan places opening (p ∷ past) (s ∷ ss)).protocol.is_open t ≡ false)
     closed = ended_is_closed plan (happens plan (history plan places opening past ss) p.action (has_effect places p.event (closing opening ss) s)) t p.ends ends (taken_stays plan (history plan places opening past ss) p.action (has_effect places p.event (closing opening ss) s) t was_taken)

@@ -11,7 +11,7 @@ use Rattle.sdb_model.specs.declared.event.How.TheVariants.{Seen, Lost, Discarded
 use Rattle.sdb_model.specs.Rows.{Name, same_name}
 use Rattle.sdb_model.specs.Events.{StoreContents, contents_under, with_contents, store_of, stored_at, table_asked, IsPerformed, IsCall, Effect, IsTrace}
 use Rattle.law_protocol.proofs.Effects.{store_same, held_there, held_elsewhere}
-use Rattle.law_protocol.specs.Spread.{one_store, relocated_event, relocated_events, AreAbout, HoldAs, AreShelved, HasTraceOnMany, TraceOnOne}
+use Rattle.law_protocol.specs.Spread.{one_store, relocated_event, relocated_events, AreAbout, HoldAs, HaveStores, HasTraceOnMany, TraceOnOne}
 use Rattle.law_protocol.proofs.Calls.{SameOf, same_reply, same_after, left_apart, held_as}
 use Rattle.sdb_types.proofs.Public.{some_is as some_same}
 use Rattle.law_protocol.proofs.Single.{one_held, one_left}
@@ -90,7 +90,7 @@ taken_out (Some x) h = (x, refl)
 some_of : {A : Type 0} (o : Option A) (x : A) → o ≡ Some x → IsSome o
 some_of o x e = ap is_some e
 
-shelved_more : (places : List Place) (store_contents : List StoreContents) (store : Name) (held left : Contents) → contents_under store_contents store ≡ Some held → AreShelved places store_contents → AreShelved places (with_contents store_contents store left)
+shelved_more : (places : List Place) (store_contents : List StoreContents) (store : Name) (held left : Contents) → contents_under store_contents store ≡ Some held → HaveStores places store_contents → HaveStores places (with_contents store_contents store left)
 shelved_more places store_contents store held left found all ns = by (same_name store (store_of places store_contents ns)) refl
   where
     by : (b : Bool) → same_name store (store_of places store_contents ns) ≡ b → IsSome (contents_under (with_contents store_contents store left) (store_of places (with_contents store_contents store left) ns))
@@ -108,7 +108,7 @@ record ManyCall (catalog : List Table) (places : List Place) (at : Name → Name
   now : List StoreContents
   called : IsCall places (at (table_asked q).ns) q how r before now
   holds : HoldAs catalog places now left
-  shelved : AreShelved places now
+  shelved : HaveStores places now
   ats : AreAt places now at
 
 -- what is at a key of the call's table
@@ -124,7 +124,7 @@ same_there catalog places at q before m h about ats holds found k e =
     sym (stands_here places at q before h ats found k e) ∙ holds.at k (ap (is_table_of_run catalog) e ∙ about)
 
 many_found : (catalog : List Table) (places : List Place) (at : Name → Name) (q : Request) (how : How) (r : Reply) (before : List StoreContents) (m left : Contents) → is_table_of_run catalog (table_asked q) ≡ true
-    → AreAt places before at → AreShelved places before → HoldAs catalog places before m → IsPerformed q how r m left
+    → AreAt places before at → HaveStores places before → HoldAs catalog places before m → IsPerformed q how r m left
     → (h : Contents) → contents_under before (at (table_asked q).ns) ≡ Some h → ManyCall catalog places at q how r before left
 many_found catalog places at q how r before m left about ats shelved holds performed h found =
     let p = performed_too q how r h m left (same_there catalog places at q before m h about ats holds found) performed in
@@ -139,7 +139,7 @@ many_found catalog places at q how r before m left about ats shelved holds perfo
     }
 
 many_call : (catalog : List Table) (places : List Place) (at : Name → Name) (q : Request) (how : How) (r : Reply) (before : List StoreContents) (m left : Contents) → is_table_of_run catalog (table_asked q) ≡ true
-    → AreAt places before at → AreShelved places before → HoldAs catalog places before m → IsPerformed q how r m left → ManyCall catalog places at q how r before left
+    → AreAt places before at → HaveStores places before → HoldAs catalog places before m → IsPerformed q how r m left → ManyCall catalog places at q how r before left
 many_call catalog places at q how r before m left about ats shelved holds performed =
     let home = taken_out (contents_under before (store_of places before (table_asked q).ns)) (shelved (table_asked q).ns) in
     many_found catalog places at q how r before m left about ats shelved holds performed home.0 (ap (contents_under before) (sym (ats (table_asked q).ns)) ∙ home.1)
@@ -157,7 +157,7 @@ many_still : (catalog : List Table) (places : List Place) (at : Name → Name) (
 many_still catalog places at e es before m1 effect rest = record { moments = before ∷ rest.moments; closing = rest.closing; trace = (effect, rest.trace); holds = rest.holds }
 
 many_traced : (catalog : List Table) (name : Name) (places : List Place) (at : Name → Name) (events : List Event) (singles : List (List StoreContents)) (before : List StoreContents) (m0 m1 : Contents)
-    → IsTrace [] events (one_store name m0) singles (one_store name m1) → AreAbout catalog events → AreAt places before at → AreShelved places before → HoldAs catalog places before m0
+    → IsTrace [] events (one_store name m0) singles (one_store name m1) → AreAbout catalog events → AreAt places before at → HaveStores places before → HoldAs catalog places before m0
     → Many catalog places at events before m1
 many_traced catalog name places at [] [] before m0 m1 t about ats shelved holds =
     record { moments = []; closing = before; trace = refl; holds = subst (HoldAs catalog places before) (sym (ap contents_of t)) holds }

@@ -13,7 +13,7 @@ use Rattle.law_protocol.specs.Trace.{closing, IsTraced, StartsEmpty, has_effect,
 use Rattle.sdb_types.proofs.Public.{tests}
 use Rattle.law_protocol.proofs.Allowed.{Allowed}
 use Rattle.law_protocol.proofs.Seen.{All, all_closed, all_kept, all_start}
-use Rattle.law_protocol.proofs.Shown.{stood}
+use Rattle.law_protocol.proofs.Observed.{stood}
 use Rattle.law_protocol.proofs.Known.{IsPlanned, AreMoments, known_closed, known_kept, known_now}
 use Rattle.law_protocol.proofs.Settled.{Knows}
 use Rattle.law_protocol.proofs.Moves.{Moves, prepare_moves, decide_moves, abort_moves}

@@ -6,7 +6,7 @@ use Rattle.sdb_types.specs.declared.record.Request.TheVariants as ask
 use Rattle.sdb_types.specs.declared.record.Reply.TheVariants as reply
 use Rattle.sdb_types.specs.Contents.{Contents, record_at, holds, put_reply, reply_to, after}
 use Rattle.sdb_types.specs.Order.{same_key}
-use Rattle.sdb_types.proofs.Public.{same_key_self, same_key_tells}
+use Rattle.sdb_types.proofs.Public.{same_key_self, same_key_decides}
 use Rattle.sdb_model.specs.Rows.{Name}
 use Rattle.sdb_model.specs.Events.{StoreContents, stored_at, table_asked, IsCall}
 use Rattle.law_protocol.specs.Trace.{takes_effect_at}
@@ -85,7 +85,7 @@ written_done places q key c new r before now a ns replies afters fresh moved exe
     took_effect = took_done (holds c (stored_at places before key)) c (stored_at places before key) (stored_at places now key) new refl now_here fresh
 
     apart : (k : Key) → k.table.ns ≢ (table_asked q).ns → same_key k key ≡ false
-    apart k n = elim (same_key_tells k key) [
+    apart k n = elim (same_key_decides k key) [
       | inl e ↦ absurd (n (ap (λ x. x.table.ns) e.1 ∙ ns))
       | inr f ↦ f.0
     ]

@@ -161,7 +161,7 @@ ReadsCurrent plan w = (t i : ℕ) (k : Key) (found : Option ℕ) → w.row t ≡
 pub record AreApart (plan : ℕ → Plan) (w : History) (t v : ℕ) : Type 0 where
   pub writes : (k : Key) → written (plan t) k ≢ None → written (plan v) k ≡ None
   pub read_set : (i : ℕ) (k : Key) → written (plan t) k ≢ None → version_read_at (plan v) i k ≡ None
-  pub noted_by : (i : ℕ) (k : Key) → version_read_at (plan t) i k ≢ Some (Some v)
+  pub never_read : (i : ℕ) (k : Key) → version_read_at (plan t) i k ≢ Some (Some v)
 
 abbrev pub Middle : (ℕ → Plan) → History → Type 0
 Middle plan w = (t v : ℕ) → w.row t ≡ None → w.protocol.accepted t ≡ true → IsPrepared plan w.protocol t → w.row v ≡ Some Committed → w.protocol.point t < w.protocol.point v → AreApart plan w t v

@@ -31,7 +31,7 @@ AreReadSets plan events past = (t : ℕ) → (protocol_state past).accepted t �
 -- Committed, or that it was denied. Nothing but the COMMIT of a transaction is answered Committed. Unknown names the transaction.
 pub record IsFaithful (events : List Event) (past : List Labelled) : Type 0 where
   pub begun : (t n : ℕ) → t < 2 ^ 128 → begun events (id t) ≡ Some n → (protocol_state past).begun t ≡ n
-  pub accepted : (t : ℕ) → (protocol_state past).accepted t ≡ true → option_map_or (λ s. s.accepted) (commit_of events (id t)) 0 ≡ (protocol_state past).taken_at t
+  pub accepted : (t : ℕ) → (protocol_state past).accepted t ≡ true → option_map_or (λ s. s.accepted) (commit_of events (id t)) 0 ≡ (protocol_state past).accepted_at t
   pub answered : (t : ℕ) (s : Executed) → t < 2 ^ 128 → commit_of events (id t) ≡ Some s → s.answer ≡ Some answer.Committed → IsAnsweredCommittedAt past t s.reached
   pub denied : (t : ℕ) (s : Executed) (a : Answer) → t < 2 ^ 128 → commit_of events (id t) ≡ Some s → s.answer ≡ Some a → is_denial a ≡ true → (protocol_state past).accepted t ≡ true → IsDenied past t
   pub owned : (client : ℕ) (s : Executed) → Contains (statements_by client events) s → s.answer ≡ Some answer.Committed → IsCommitOf events client s

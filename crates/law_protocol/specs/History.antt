@@ -76,7 +76,7 @@ pub record ProtocolState : Type 0 where
   -- its COMMIT was accepted
   pub accepted : ℕ → Bool
   -- the number of the event that took it, and 0 before
-  pub taken_at : ℕ → ℕ
+  pub accepted_at : ℕ → ℕ
   pub stage : ℕ → Stage
   -- its prepare of a key was asked; and was seen and applied
   pub asked : ℕ → Key → Bool
@@ -123,7 +123,7 @@ initial_state = record {
   is_open = λ t. false;
   stopped = λ c. false;
   accepted = λ t. false;
-  taken_at = λ t. 0;
+  accepted_at = λ t. 0;
   stage = λ t. Preparing;
   asked = λ t k. false;
   answered = λ t k. false;
@@ -143,7 +143,7 @@ ticked h = record h { now = h.now + 1 }
 abbrev pub state_after : ProtocolState → Action → ProtocolState
 state_after h Other = h
 state_after h (Begins t c) = record h { begun = at h.begun t h.now; owner = at h.owner t c; is_open = at h.is_open t true }
-state_after h (Takes t) = record h { accepted = at h.accepted t true; taken_at = at h.taken_at t h.now; point = at h.point t h.now }
+state_after h (Takes t) = record h { accepted = at h.accepted t true; accepted_at = at h.accepted_at t h.now; point = at h.point t h.now }
 state_after h (Prepares t ks word) = record h {
   asked = at_keys_of h.asked t ks (λ q. true);
   answered = at_keys_of h.answered t ks (λ q. is_yes word);

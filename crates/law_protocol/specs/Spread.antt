@@ -43,8 +43,8 @@ pub record HoldAs (catalog : List Table) (places : List Place) (store_contents :
   pub at : (key : Key) → is_table_of_run catalog key.table ≡ true → stored_at places store_contents key ≡ record_at held key
 
 -- Each namespace has a store that is attached.
-abbrev pub AreShelved : List Place → List StoreContents → Type 0
-AreShelved places store_contents = (ns : Name) → IsSome (contents_under store_contents (store_of places store_contents ns))
+abbrev pub HaveStores : List Place → List StoreContents → Type 0
+HaveStores places store_contents = (ns : Name) → IsSome (contents_under store_contents (store_of places store_contents ns))
 
 ---- one store, and several that hold the same
 
@@ -77,7 +77,7 @@ pub record TraceOnOne : Type 0 where
   pub about : AreAbout catalog events
   pub places : List Place
   pub opening : List StoreContents
-  pub shelved : AreShelved places opening
+  pub shelved : HaveStores places opening
   pub same : HoldAs catalog places opening held_before
 
 -- The several stores have a trace of its relocated events, and hold the same in the end.

@@ -47,5 +47,5 @@ pub fn trace_turned()
 
 /// A transaction's point is the event of its last prepare that was seen and applied, or else the event that took its COMMIT.
 pub fn point_is_last_prepare()
-    ensures { (r : RunInOrder) (t : ℕ) → IsCommitStarted r t → (protocol_state_in r).point t ≡ unwrap_or (last_prepare (events_in r) (id t)) ((protocol_state_in r).taken_at t) }
+    ensures { (r : RunInOrder) (t : ℕ) → IsCommitStarted r t → (protocol_state_in r).point t ≡ unwrap_or (last_prepare (events_in r) (id t)) ((protocol_state_in r).accepted_at t) }
 {}

@@ -11,7 +11,7 @@ use Rattle.sdb_model.specs.Explained.{Explained}
 use Rattle.law_protocol.proofs.Public.{half}
 use Rattle.law_protocol.specs.Spread.{HoldAs}
 use Rattle.law_runs.specs.Stores.{AreSound}
-use Rattle.law_runs.proofs.Explains.{going_is_explained}
+use Rattle.law_runs.proofs.Explains.{invariant_is_explained}
 use Rattle.law_runs.proofs.OnStores.{sound_on_stores}
 use Rattle.law_clients.specs.Fitting.{tables_are_well_typed}
 use Rattle.law_clients.specs.States.{doing_of, system_of}
@@ -58,7 +58,7 @@ invariant_on_one script events playable x = record { name = one_name; fit = tabl
 pub explained_at : (script : Script) (events : List Event) (opening closing : List StoreContents) (moments : List (List StoreContents)) (n : ℕ) → IsPlayable script → IsExecution script events → IsTrace script.places events opening moments closing → HoldAs script.catalog script.places opening empty → Explained script.catalog script.places (take n events) opening (take n moments)
 explained_at script events opening closing moments n playable x trace nothing =
     let y : IsExecution script (take n events) = begins_execution script events n x in
-    going_is_explained (record { catalog = script.catalog; running = invariant_on_one script (take n events) playable y; apart = no_coordinator script playable; places = script.places; opening = opening; closing = moment opening moments n; moments = take n moments; trace = trace_front script.places n events opening moments closing trace; about = execution_about script (take n events) playable y; nothing = nothing })
+    invariant_is_explained (record { catalog = script.catalog; running = invariant_on_one script (take n events) playable y; apart = no_coordinator script playable; places = script.places; opening = opening; closing = moment opening moments n; moments = take n moments; trace = trace_front script.places n events opening moments closing trace; about = execution_about script (take n events) playable y; nothing = nothing })
 
 -- Each record that is there after so many events passes the checks.
 pub sound_at : (script : Script) (events : List Event) (opening closing : List StoreContents) (moments : List (List StoreContents)) (n : ℕ) → IsPlayable script → IsExecution script events → IsTrace script.places events opening moments closing → HoldAs script.catalog script.places opening empty → AreSound script.catalog script.places (moment opening moments n)

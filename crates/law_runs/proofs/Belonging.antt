@@ -11,9 +11,9 @@ use Rattle.sdb_model.specs.Rows.{Name}
 use Rattle.sdb_model.specs.Transactions.{Executed, statements_by}
 use Rattle.sdb_client.specs.Client.{ClientAt}
 use Rattle.law_clients.specs.History.{executed_of_take, waiting_of}
-use Rattle.law_clients.proofs.Public.{others_silent, said_more, take_said}
+use Rattle.law_clients.proofs.Public.{others_silent, executed_more, take_executed}
 use Rattle.law_answers.specs.Invariant.{IsAnswered, IsWaiting, Knows}
-use Rattle.law_answers.proofs.Public.{call_said, calls_stay, calls_wait, made_at, none_made, one_made, own_made, silent_said}
+use Rattle.law_answers.proofs.Public.{call_executed, calls_stay, calls_wait, made_at, none_made, one_made, own_made, silent_executed}
 use Rattle.sdb_client.specs.Execution.{CallStep, IsExecution, IsPath, IsPlayable, IsStepFrom, State}
 use Rattle.law_runs.specs.Laws.{CallsAreOfStatements, IsOfStatement}
 use Rattle.law_runs.specs.World.{WorldAt, states_of, state_of}
@@ -46,8 +46,8 @@ module _ (catalog : List Table) (events : List Event) (c : ℕ) (h : ClientAt) (
 
   -- with the call, what it has said
   says : (b : Option Answer) → statements_by c (events ++ event.Call c store q how r b ∷ []) ≡ k.entries ++ replied_said events x b ∷ []
-  says None = silent_said c events store q how r ∙ answered
-  says (Some b) = call_said c events (made_at events store q how r) b k.entries x answered
+  says None = silent_executed c events store q how r ∙ answered
+  says (Some b) = call_executed c events (made_at events store q how r) b k.entries x answered
 
   of_waiting : (m : StoreCall) → Contains (calls_of events c x ++ made_at events store q how r ∷ []) m → IsOfStatement E c m
   of_waiting m has = record {
@@ -95,14 +95,14 @@ module _ (w : WorldAt) (h : Holds w) (so : CallsAreOfStatements w.events) where
   step_of : (e : Event) (u : State) → IsStepFrom w.script (state_of w) e u → CallsAreOfStatements (w.events ++ e ∷ [])
   step_of (event.Take c text a) u t d m has = by_nat c d
       (λ same. keeps w.script.catalog w.events (event.Take c text a) d (states_of w.client_slots d).client m (h.caused.each d) refl
-      (λ s k. subst (λ (n : ℕ). Contains (statements_by n (w.events ++ event.Take c text a ∷ [])) s) same (subst (λ (ss : List Executed). Contains ss s) (sym (take_said c w.events text a)) (Contains-append_left (statements_by c w.events) (executed_of_take w.events text a ∷ []) s (subst (λ (n : ℕ). Contains (statements_by n w.events) s) (sym same) k)))) (so d m) has)
+      (λ s k. subst (λ (n : ℕ). Contains (statements_by n (w.events ++ event.Take c text a ∷ [])) s) same (subst (λ (ss : List Executed). Contains ss s) (sym (take_executed c w.events text a)) (Contains-append_left (statements_by c w.events) (executed_of_take w.events text a ∷ []) s (subst (λ (n : ℕ). Contains (statements_by n w.events) s) (sym same) k)))) (so d m) has)
       (λ apart. others (event.Take c text a) d m refl (others_silent w.events d c (event.Take c text a) apart refl) has)
   step_of (event.Call c store q how r a) u t d m has = by_nat c d
       (λ same. subst (λ (n : ℕ). IsOfStatement (w.events ++ event.Call c store q how r a ∷ []) n m) same (of_call c store q how r a u t m (subst (λ (n : ℕ). Contains (calls_by (w.events ++ event.Call c store q how r a ∷ []) n) m) (sym same) has)))
       (λ apart. others (event.Call c store q how r a) d m (apart_made d c (1 + length w.events) store q how r a apart) (others_silent w.events d c (event.Call c store q how r a) apart refl) has)
-  step_of (event.Stop c) u t d m has = others (event.Stop c) d m refl (said_more d w.events (event.Stop c)) has
-  step_of (event.Clock n) u t d m has = others (event.Clock n) d m refl (said_more d w.events (event.Clock n)) has
-  step_of (event.Idle c) u t d m has = others (event.Idle c) d m refl (said_more d w.events (event.Idle c)) has
+  step_of (event.Stop c) u t d m has = others (event.Stop c) d m refl (executed_more d w.events (event.Stop c)) has
+  step_of (event.Clock n) u t d m has = others (event.Clock n) d m refl (executed_more d w.events (event.Clock n)) has
+  step_of (event.Idle c) u t d m has = others (event.Idle c) d m refl (executed_more d w.events (event.Idle c)) has
 
 path_of : (es : List Event) (w : WorldAt) (t : State) → IsPath w.script (state_of w) es t → Holds w → CallsAreOfStatements w.events → CallsAreOfStatements (w.events ++ es)
 path_of [] w t h k so = subst CallsAreOfStatements (sym (append-nil w.events)) so

@@ -19,7 +19,7 @@ use Rattle.sdb_client.specs.Execution.{AreFresh, IsGateAt, IsPlayable, client_af
 use Rattle.law_runs.specs.World.{WorldAt, at_moment, state_in, states_of, with_event, with_client}
 use Rattle.law_runs.specs.Linked.{HaveCauses, IsLinked, on_one}
 use Rattle.law_runs.proofs.Linked.{fresh_hand, on_hand}
-use Rattle.law_runs.proofs.Seats.{hands_moved, suc_is}
+use Rattle.law_runs.proofs.Slots.{hands_moved, suc_is}
 use Rattle.law_runs.proofs.Gates.{gated_at}
 use Rattle.sdb_model.specs.Calls.{is_stored_reply}
 

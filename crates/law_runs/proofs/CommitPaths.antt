@@ -29,7 +29,7 @@ use Rattle.sdb_client.specs.Execution.{IsExecution, IsPlayable}
 use Rattle.law_clients.specs.History.{executed_of_take, executed_with_answer, waiting_of}
 use Rattle.law_answers.specs.Invariant.{ClientByHistory, DoingByHistory, IsAnswered, IsDoing, IsWaiting, Knows}
 use Rattle.law_answers.specs.Paths.{Call, EndsIn}
-use Rattle.law_answers.proofs.Public.{call_said, clock_more, clock_same, commit_is, made_at, none_yet}
+use Rattle.law_answers.proofs.Public.{call_executed, clock_more, clock_same, commit_is, made_at, none_yet}
 use Rattle.law_runs.specs.CommitPaths.{CommitsArePaths, IsAtOnce, IsCommitPath, IsOpenCommitPath, OpenCommitsArePaths, RollsAs, as_call, path_calls}
 use Rattle.law_runs.specs.World.{states_of}
 use Rattle.law_runs.proofs.CommitSteps.{MakesAs, makes_end, makes_first, makes_on, rolls_as}
@@ -197,7 +197,7 @@ module _ (catalog : List Table) (events : List Event) (c : ℕ) (h d : ClientAt)
           work = p;
           takes = record {
             commit = subst (IsCommitOf (E (Some b)) c (executed_with_answer events x b)) (sym z.is.same)
-                (commit_is (E (Some b)) c h.begun k.entries (executed_with_answer events x b) z.t k.small (call_said c events store q how r b k.entries x answered) z.is.text (ends_commit (executed_with_answer events x b) z.is.text) z.since);
+                (commit_is (E (Some b)) c h.begun k.entries (executed_with_answer events x b) z.t k.small (call_executed c events store q how r b k.entries x answered) z.is.text (ends_commit (executed_with_answer events x b) z.is.text) z.since);
             moment = same_clock (Some b);
           };
           outcome = end.0;

@@ -32,7 +32,7 @@ use Rattle.law_answers.specs.Counts.{CommitIsCounted}
 use Rattle.law_answers.specs.Rolled.{AnsweredWereSeen, IsDealtWith, RolledBut}
 use Rattle.law_answers.specs.Commits.{ObservesBad, PutsOutOfMemory}
 use Rattle.law_answers.specs.Unfit.{AreStoredReplies}
-use Rattle.law_answers.proofs.Public.{all_resolved, answered_seen, each_in, each_kept, kept_in, seen_no_faults, shown_bad, shown_read}
+use Rattle.law_answers.proofs.Public.{all_resolved, answered_seen, each_in, each_kept, kept_in, seen_no_faults, observed_bad, observed_read}
 use Rattle.sdb_client.specs.Execution.{IsExecution, IsPlayable}
 use Rattle.law_runs.specs.Complete.{CommitEnds, IsUncontended, UncontendedCommitsComplete, HasCommitted, IsCoordinatorRow, IsOnTable, IsServed, ObserveNone, ReadsUnresolved, RecoveriesComplete, RecoveryEnds, ResolvedAreNotBusy, SeenAreServed, StatementEnds, StatementsComplete}
 use Rattle.law_runs.specs.Laws.{BusyIsOfReads}
@@ -344,7 +344,7 @@ module _ (script : Script) (events : List Event) (playable : IsPlayable script) 
             rolled (inr y) = as_rolled y
 
             by : ObservesBad calls key ⊎ RolledBut events (reads_vacuum s.text) calls [] → Rolled
-            by (inl b) = absurd (sound b.call b.found b.among b.observed (shown_bad calls key stored b))
+            by (inl b) = absurd (sound b.call b.found b.among b.observed (observed_bad calls key stored b))
             by (inr g) = rolled (g m r read.among read.reads read.found read.unresolved)
 
         none_commits_here : (id : TxId) → IsCommitOf events client s id → ⊥
@@ -390,7 +390,7 @@ module _ (script : Script) (events : List Event) (playable : IsPlayable script) 
   pub execution_resolved : ResolvedAreNotBusy events
   execution_resolved client s key id at has none is =
       let z = caused.caused client s (answer.Busy key id at) has is in
-      none z.read z.found z.reads.0 (shown_read z.read.reply z.found z.reads.2) z.early.unresolved.0
+      none z.read z.found z.reads.0 (observed_read z.read.reply z.found z.reads.2) z.early.unresolved.0
 
   -- Each recovery comes to an end.
   pub execution_recovers : Follows script events → RecoveriesComplete script.catalog events

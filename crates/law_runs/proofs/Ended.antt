@@ -18,8 +18,8 @@ use Rattle.sdb_model.specs.Rows.{Name}
 use Rattle.sdb_model.specs.Serial.{IsRun}
 use Rattle.sdb_model.specs.Transactions.{IsOrder}
 use Rattle.law_protocol.specs.Trace.{StartsEmpty}
-use Rattle.law_protocol.proofs.Public.{commit_moved, follows_moved, one_standing, point_moved, run_relocated, single, store_same}
-use Rattle.law_clients.proofs.Public.{going_is_run}
+use Rattle.law_protocol.proofs.Public.{commit_moved, follows_moved, one_stored, point_moved, run_relocated, single, store_same}
+use Rattle.law_clients.proofs.Public.{invariant_is_run}
 use Rattle.law_protocol.specs.Spread.{HoldAs, relocated_events, one_store}
 use Rattle.sdb_types.proofs.Public.{or_true}
 use Rattle.law_runs.specs.Traces.{EndOnStores, outcome_on}
@@ -50,7 +50,7 @@ put_back name places at (event.Call client store q how r answer ∷ es) before (
 pub decides : (catalog : List Table) (places : List Place) (closing : List StoreContents) (name : Name) (m : Contents) → HoldAs catalog places closing m → (id : TxId) → decision_at places closing id ≡ decision_at [] (one_store name m) id
 unfolding coordinator_key_of
 decides catalog places closing name m h id =
-    ap (option_and_then (λ (row : Record). result_ok (decision_in row))) (h.at (coordinator_key_of id) (or_true (is_some (find_table catalog (coordinator_key_of id).table))) ∙ sym (one_standing name m (coordinator_key_of id)))
+    ap (option_and_then (λ (row : Record). result_ok (decision_in row))) (h.at (coordinator_key_of id) (or_true (is_some (find_table catalog (coordinator_key_of id).table))) ∙ sym (one_stored name m (coordinator_key_of id)))
 
 order_on_one : (at : Name → Name) (catalog : List Table) (places : List Place) (closing : List StoreContents) (name : Name) (m : Contents) (events : List Event) (order : List Point) → HoldAs catalog places closing m → IsOrder places events closing order
     → IsOrder [] (relocated_events at events) (one_store name m) order
@@ -64,14 +64,14 @@ order_on_one at catalog places closing name m events order h o = record {
 ---- the whole
 
 pub starts_empty : (name : Name) → StartsEmpty [] (one_store name empty)
-starts_empty name key = one_standing name empty key ∙ ap (λ (o : Option (List Pair)). option_map (λ (columns : List Pair). record_of (key, columns)) o) (get-empty key_cmp key)
+starts_empty name key = one_stored name empty key ∙ ap (λ (o : Option (List Pair)). option_map (λ (columns : List Pair). record_of (key, columns)) o) (get-empty key_cmp key)
 
-pub going_is_run_on_stores : (script : Script) (e : EndOnStores script) → (tables : List TableDump) × IsRun script e.opening e.closing (outcome_on e tables)
-going_is_run_on_stores script e =
+pub invariant_is_run_on_stores : (script : Script) (e : EndOnStores script) → (tables : List TableDump) × IsRun script e.opening e.closing (outcome_on e tables)
+invariant_is_run_on_stores script e =
     let alone : Script = script_with_places script [] in
     let moved : List Event = relocated_events (λ ns. e.running.name) e.running.events in
     let s = single e.running.name e.running.events e.opening e.ends.moments e.closing e.ends.traced e.ends.about e.ends.nothing in
-    let ran = going_is_run alone (record { fit = e.running.fit; events = moved; sys = e.running.sys; doing = e.running.doing; opening = one_store e.running.name empty; closing = one_store e.running.name s.last; moments = s.singles; order = e.order; fitting = e.fitting; running = e.running.running; follows = follows_moved (λ ns. e.running.name) script e.running.events e.ends.follows; traced = s.traced; empty = starts_empty e.running.name; ordered = order_on_one (λ ns. e.running.name) script.catalog script.places e.closing e.running.name s.last e.running.events e.order s.same e.ends.ordered; ids = e.ends.small }) in
+    let ran = invariant_is_run alone (record { fit = e.running.fit; events = moved; sys = e.running.sys; doing = e.running.doing; opening = one_store e.running.name empty; closing = one_store e.running.name s.last; moments = s.singles; order = e.order; fitting = e.fitting; running = e.running.running; follows = follows_moved (λ ns. e.running.name) script e.running.events e.ends.follows; traced = s.traced; empty = starts_empty e.running.name; ordered = order_on_one (λ ns. e.running.name) script.catalog script.places e.closing e.running.name s.last e.running.events e.order s.same e.ends.ordered; ids = e.ends.small }) in
     let at : Name → Name = store_of script.places e.opening in
     let back : relocated_events at moved ≡ e.running.events = put_back e.running.name script.places at e.running.events e.opening e.ends.moments e.closing (λ ns. refl) e.ends.traced in
     let there = run_relocated (record { script = alone; name = e.running.name; held_before = empty; held_after = s.last; outcome = record { events = moved; order = e.order; tables = ran.0 }; no_places = refl; run = ran.1; places = script.places; at = at; opening = e.opening; closing = e.closing; moments = e.ends.moments; trace = subst (λ (es : List Event). IsTrace script.places es e.opening e.ends.moments e.closing) (sym back) e.ends.traced; same = s.same }) in

@@ -22,13 +22,13 @@ use Rattle.sdb_model.specs.ReadSet.{ReadItem}
 use Rattle.sdb_model.specs.Rows.{Name}
 use Rattle.sdb_model.specs.Transactions.{Recorded, point}
 use Rattle.sdb_model.proofs.Public.{call_of, puts_table}
-use Rattle.law_protocol.proofs.Public.{begun_moved, committed_at, current_at, gone_at, moved_more, point_moved, rows_at, stand_at, stands_at, unchanged_at, unresolved_at}
+use Rattle.law_protocol.proofs.Public.{begun_moved, committed_at, current_at, gone_at, moved_more, point_moved, rows_at, stand_at, lies_at, unchanged_at, unresolved_at}
 use Rattle.law_protocol.specs.Spread.{AreAbout, IsAbout, relocated_event, relocated_events, one_store}
 use Rattle.law_runs.proofs.Ended.{starts_empty}
 use Rattle.law_runs.proofs.Moments.{Alone, alone}
-use Rattle.law_runs.proofs.Noted.{noted_moved}
+use Rattle.law_runs.proofs.ReadItems.{noted_moved}
 use Rattle.law_runs.proofs.Runs.{IsLawfulRun, lawful_run}
-use Rattle.law_runs.proofs.Standing.{taken_at}
+use Rattle.law_runs.proofs.StoredRecords.{accepted_at}
 use Rattle.sdb_model.specs.Tables.{is_table_of_run}
 use Rattle.law_runs.specs.Traces.{TracedOnStores}
 
@@ -39,7 +39,7 @@ standing_by_run catalog places events opening moments none b =
     subst (λ (es : List Event). ContentsExplained catalog places es opening moments) (sym b.same) (record {
       committed_recorded = λ n low. committed_at b.labelled moments catalog n b.run none low;
       unresolved_prepared = λ n low. unresolved_at b.labelled moments catalog n b.run none low;
-      prepared_stands = λ n low. stands_at b.labelled moments catalog n b.run none low;
+      prepared_stay = λ n low. lies_at b.labelled moments catalog n b.run none low;
       writes_stand = stand_at b.plan places opening b.labelled moments catalog b.run none b.faithful;
       aborted_gone = λ n low. gone_at b.labelled moments catalog n b.run none low;
       rows_final = λ early late order low. rows_at b.labelled moments early late b.run order low;
@@ -238,8 +238,8 @@ module _ (catalog : List Table) (name : Name) (places : List Place) (events : Li
         let u = s.unresolved_prepared n (within n low) key r table (sym (at_key n key table) ∙ at) loose in
         let p = prepared_back u.0 r u.1 u.4 in
         (u.0, p.0, u.2, subst (λ (k : ℕ). k < n) (sym p.1) u.3, p.2);
-    prepared_stands = λ n low id r front fits table early p none.
-        at_key n r.key table ∙ s.prepared_stands n (within n low) id r (moved front) fits table (subst (λ (k : ℕ). k < n) (sym (long front)) early) (prepared_on id r front p) (sym (at_row n id) ∙ none);
+    prepared_stay = λ n low id r front fits table early p none.
+        at_key n r.key table ∙ s.prepared_stay n (within n low) id r (moved front) fits table (subst (λ (k : ℕ). k < n) (sym (long front)) early) (prepared_on id r front p) (sym (at_row n id) ∙ none);
     writes_stand = λ key id table w. left_back key id table (s.writes_stand key id table (writer_on key id w));
     aborted_gone = λ n low id key r fits aborted table at.
         s.aborted_gone n (within n low) id key r fits (subst (λ (o : Option Decided). IsSomeAnd o (λ d. d.decision ≡ decision.Aborted)) (decided n id) aborted) table (sym (at_key n key table) ∙ at);
@@ -296,15 +296,15 @@ beside t =
     let a = alone t.catalog t.running.name t.places t.running.events t.opening t.moments t.closing empty t.trace t.about t.nothing in
     (a, lawful_run t.catalog t.running.fit (relocated_events (λ ns. t.running.name) t.running.events) t.running.sys t.running.doing [] (one_store t.running.name empty) a.last a.singles t.running.running a.traced (starts_empty t.running.name))
 
-pub going_is_explained : (t : TracedOnStores) → Explained t.catalog t.places t.running.events t.opening t.moments
-going_is_explained t =
+pub invariant_is_explained : (t : TracedOnStores) → Explained t.catalog t.places t.running.events t.opening t.moments
+invariant_is_explained t =
     let b = beside t in
     record {
       stored_at = standing_back t.catalog t.running.name t.places t.running.events t.opening t.moments empty t.about b.0 (standing_by_run t.catalog [] (relocated_events (λ ns. t.running.name) t.running.events) (one_store t.running.name empty) b.0.singles t.apart b.1);
       reads_current = reads_back t.catalog t.running.name t.places t.running.events t.opening t.moments empty t.about b.0 (reads_by_run t.catalog [] (relocated_events (λ ns. t.running.name) t.running.events) (one_store t.running.name empty) b.0.singles t.apart b.1);
     }
 
-pub going_is_taken : (t : TracedOnStores) → AreTransactional t.catalog t.places t.opening t.moments
-going_is_taken t =
+pub invariant_is_accepted : (t : TracedOnStores) → AreTransactional t.catalog t.places t.opening t.moments
+invariant_is_accepted t =
     let b = beside t in
-    taken_back t.catalog t.running.name t.places t.running.events t.opening t.moments empty t.about b.0 (taken_at b.1.plan [] (one_store t.running.name empty) b.1.labelled b.0.singles t.catalog b.1.run t.apart)
+    taken_back t.catalog t.running.name t.places t.running.events t.opening t.moments empty t.about b.0 (accepted_at b.1.plan [] (one_store t.running.name empty) b.1.labelled b.0.singles t.catalog b.1.run t.apart)

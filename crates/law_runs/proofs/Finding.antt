@@ -13,7 +13,7 @@ use Rattle.sdb_types.specs.Columns.{column}
 use Rattle.sdb_types.specs.Contents.{Contents, after, holds, is_partition, record_at, tx_id}
 use Rattle.sdb_types.specs.Exact.{equal_of}
 use Rattle.sdb_types.specs.Order.{table_cmp, same_key}
-use Rattle.sdb_types.proofs.Public.{all_each, and_both, and_first, by_test, clash, none_some, not_true, record_at-key, same_key_tells, some_is, table_exact}
+use Rattle.sdb_types.proofs.Public.{all_each, and_both, and_first, by_test, clash, none_some, not_true, record_at-key, same_key_decides, some_is, table_exact}
 use Rattle.sdb_record.specs.Coordinator.{coordinator_key_of, coordinator_table, decision_in, is_coordinator_table}
 use Rattle.sdb_record.specs.Meta.{id_in, is_in, is_transactional}
 use Rattle.sdb_record.specs.Rolls.{image_of, image_under, row_of_image}
@@ -44,7 +44,7 @@ put_leaves : (places : List Place) (e : Event) (before now : List StoreContents)
 put_leaves places (event.Call client store (ask.PutIf rec c) how r answer) before now k j effect put apart = stays (at_call places store (ask.PutIf rec c) how r before now effect)
   where
     other : same_key j rec.key ≡ false
-    other = by (same_key_tells j rec.key)
+    other = by (same_key_decides j rec.key)
       where
         by : ((same_key j rec.key ≡ true) × (j ≡ rec.key)) ⊎ ((same_key j rec.key ≡ false) × (j ≢ rec.key)) → same_key j rec.key ≡ false
         by (inl e) = absurd (apart (sym put ∙ sym e.1))
@@ -260,7 +260,7 @@ module _ (catalog : List Table) (places : List Place) (events : List Event) (ope
             let u = x.unresolved_prepared n low key r table here open_still in
             let same : u.0 ≡ d.id = some_is u.0 d.id (sym u.2 ∙ d.writer) in
             ap (stored_at places (now c.p)) (sym own)
-            ∙ x.prepared_stands c.p (most c.p (length moments) past) d.id r u.1 fits (subst (IsTableKey catalog) (sym own) table) (more (length u.1) n c.p u.3 c.after) (subst (λ (id : TxId). IsPreparedAfter places events opening moments id r u.1) same u.4) c.none
+            ∙ x.prepared_stay c.p (most c.p (length moments) past) d.id r u.1 fits (subst (IsTableKey catalog) (sym own) table) (more (length u.1) n c.p u.3 c.after) (subst (λ (id : TxId). IsPreparedAfter places events opening moments id r u.1) same u.4) c.none
           where
             most : (a l : ℕ) → suc a ≤ l → a ≤ l
             most a l i = omega arith

@@ -32,14 +32,14 @@ use Rattle.sdb_txn.specs.Phases.{CommitAt}
 use Rattle.sdb_phases.specs.Work.{Work}
 use Rattle.sdb_client.specs.declared.next.Next.TheVariants as next
 use Rattle.sdb_client.specs.Client.{ClientAt, RowsReadPost, StagePost, after, answer_in, given_answer, given_left, gives, next_of, with_rows_read, resting}
-use Rattle.sdb_client.proofs.Public.{noting_idle}
+use Rattle.sdb_client.proofs.Public.{reading_stays_idle}
 use Rattle.law_clients.proofs.Public.{access_table, by_next}
 use Rattle.law_clients.specs.About.{IsOfTables}
 use Rattle.law_clients.specs.History.{executed_with_answer, waiting_of}
 use Rattle.law_answers.specs.Changes.{HasRead, StageObserves}
 use Rattle.law_answers.specs.Reads.{LedBy, ReadsBy}
 use Rattle.law_answers.specs.Invariant.{IsWaiting, Knows}
-use Rattle.law_answers.proofs.Public.{bad_unfinished, call_said, IsDataTable, IsOpenAt, made_at, read_checks, same_writes, shows_on, silent_said}
+use Rattle.law_answers.proofs.Public.{bad_unfinished, call_executed, IsDataTable, IsOpenAt, made_at, read_checks, same_writes, observes_on, silent_executed}
 use Rattle.law_runs.specs.Found.{found_by, is_answered, is_scan_of, scans_span, was_scanned}
 use Rattle.law_runs.specs.Written.{PreparesAll}
 use Rattle.law_runs.proofs.FoundGiven.{given_finishes}
@@ -158,7 +158,7 @@ module _ (catalog : List Table) (is : is_catalog catalog ≡ true) (apart : (k :
     open_at (Ended s) i = absurd i
 
     observed : StageObserves z.x.request (ms ++ made ∷ []) (read_step z.x.stage now r)
-    observed = shows_on ms now moment z.access z.asked.request (record { stage = z.x.stage; call = made; pending = z.pends }) (open_at z.x.stage z.is.stage) z.is.shows can
+    observed = observes_on ms now moment z.access z.asked.request (record { stage = z.x.stage; call = made; pending = z.pends }) (open_at z.x.stage z.is.stage) z.is.shows can
 
     has_read : (images : List Record) → read_step z.x.stage now r ≡ Ended (step.Images images) → HasRead (request_of z.access) (ms ++ made ∷ []) images []
     has_read images e = subst (λ (y : Request). HasRead y (ms ++ made ∷ []) images []) z.asked.request (subst (StageObserves z.x.request (ms ++ made ∷ [])) e observed)
@@ -195,7 +195,7 @@ module _ (catalog : List Table) (is : is_catalog catalog ≡ true) (apart : (k :
         follows.given_follows catalog events c h k runs (ev (Some b)) t z.opened z.free (done b) p z.access v
         (record { is = is; named = z.asked.named; asked = z.asked.asked; accepted = z.asked.accepted; literals = z.asked.literals; access = z.asked.access }) z.is.text z.is.inner.commit refl
         (ap (λ cs. has_finished cs (done b)) (calls_done b) ∙ given_finishes p z.access v (ms ++ made ∷ []) z.asked.asked (read_checks z.access (ms ++ made ∷ []) images (has_read images e) own) own)
-        (noting_idle t z.access images, same_writes t z.access images) (sees (Some b))
+        (reading_stays_idle t z.access images, same_writes t z.access images) (sees (Some b))
         (view_found catalog (view_after catalog (E (Some b)) c (running_of (E (Some b)) c h.begun k.entries) (sees (Some b)).run) t z.access images (found_by (calls_of (E (Some b)) c (done b))) (sees (Some b)).sees (kept t z.free z.opened z.access z.x z.reads)
         (λ key. ap (λ cs. value_at (found_by cs) key) (calls_done b) ∙ found_now (ms ++ made ∷ []) z.access images (has_read images e) own key))
         (scans_then b images e)
@@ -246,7 +246,7 @@ module _ (catalog : List Table) (is : is_catalog catalog ≡ true) (apart : (k :
 
   -- So it is after the reply to its call.
   pub calls_runs : (a : Option Answer) → CallOf catalog events c k.entries x h q r now a d → ClientRuns catalog (E a) c d
-  calls_runs None z = follows.still_runs catalog events c h k runs (ev None) d (ap (filter is_answered) (silent_said c events store q how r) ∙ answered_of_is catalog events c h k) (call_comes None z)
+  calls_runs None z = follows.still_runs catalog events c h k runs (ev None) d (ap (filter is_answered) (silent_executed c events store q how r) ∙ answered_of_is catalog events c h k) (call_comes None z)
   calls_runs (Some b) z =
       follows.next_runs catalog events c h k runs (ev (Some b)) (done b) d
-      (ap (filter is_answered) (call_said c events (made_at events store q how r) b k.entries x (k.same ∙ ap (λ (o : Option Executed). k.entries ++ waiting_of o) waiting)) ∙ filter-append is_answered k.entries (done b ∷ []) ∙ ap (λ ss. ss ++ done b ∷ []) (all_answered catalog events c k.entries k.answered)) (call_comes (Some b) z) (last_wrote b z)
+      (ap (filter is_answered) (call_executed c events (made_at events store q how r) b k.entries x (k.same ∙ ap (λ (o : Option Executed). k.entries ++ waiting_of o) waiting)) ∙ filter-append is_answered k.entries (done b ∷ []) ∙ ap (λ ss. ss ++ done b ∷ []) (all_answered catalog events c k.entries k.answered)) (call_comes (Some b) z) (last_wrote b z)

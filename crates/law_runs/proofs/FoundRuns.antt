@@ -17,7 +17,7 @@ use Rattle.law_clients.specs.Invariant.{RunInvariant}
 use Rattle.law_clients.specs.Fitting.{tables_are_well_typed}
 use Rattle.law_clients.specs.States.{ClientState, doing_of, system_of}
 use Rattle.law_clients.specs.History.{waiting_of}
-use Rattle.law_clients.proofs.Public.{others_silent, said_more}
+use Rattle.law_clients.proofs.Public.{others_silent, executed_more}
 use Rattle.law_answers.specs.Invariant.{IsWaiting, Knows}
 use Rattle.sdb_client.specs.Execution.{AreFresh, CallStep, IsExecution, IsPath, IsPlayable, IsStepFrom, State, TakeStep, client_after, client_stopped, with_client_at}
 use Rattle.law_runs.specs.Found.{IsRunOnFound, RunsOnFound, answered_inside, is_answered}
@@ -32,11 +32,11 @@ use Rattle.law_runs.proofs.Linked.{fresh_hand, on_hand}
 use Rattle.law_runs.proofs.PreparingCalls.{WaitPrepares, prepares_kept}
 use Rattle.law_runs.proofs.Replies.{call_of, pends_waits}
 use Rattle.law_runs.proofs.Running.{none_run, running_of, running_waits}
-use Rattle.law_runs.proofs.Seats.{set_here, set_other}
+use Rattle.law_runs.proofs.Slots.{set_here, set_other}
 use Rattle.law_runs.proofs.Statements.{AllSo, SoOver, none_in, step_so, waits_of}
 use Rattle.law_runs.proofs.Steps.{Holds, execution_holds, first_holds, led, step_holds}
 use Rattle.law_runs.proofs.WroteCommits.{CommitsWrote}
-use Rattle.law_answers.proofs.Public.{going_told}
+use Rattle.law_answers.proofs.Public.{invariant_serial}
 
 -- what is so of each client
 abbrev pub AllRun : WorldAt → Type 0
@@ -44,7 +44,7 @@ AllRun w = (c : ℕ) → ClientRuns w.script.catalog w.events c (states_of w.cli
 
 -- a client that reads had read what it wrote
 going_kept : (catalog : List Table) (fit : Tables → Bool) (es : List Event) (states : ℕ → ClientState) (g : RunInvariant catalog fit es (system_of states) (doing_of states)) (c : ℕ) → (states c).stopped ≡ false → (states c).client.vacuum ≡ None → (t : TxnAt) → (states c).client.txn ≡ Some t → (a : Access) (x : ReadAt) → t.doing ≡ doing.Read a x → WereRead t.seen.read_set t.seen.writes
-going_kept catalog fit es states g c goes_on free t some a x reads = (going_told states g c goes_on free some reads).1
+going_kept catalog fit es states g c goes_on free t some a x reads = (invariant_serial states g c goes_on free some reads).1
 
 ---- the clients by their numbers
 
@@ -116,10 +116,10 @@ module _ (w : WorldAt) (h : Holds w) (all : AllRun w) where
   step_runs prepared (event.Take c text a) u t = step_take c text a u t
   step_runs prepared (event.Call c store q how r a) u t = step_call prepared c store q how r a u t
   step_runs prepared (event.Stop c) u t =
-      moves_all w (event.Stop c) u t.place c t.client_slot (client_stopped t.client_slot) t.number t.at t.left h all (λ n apart. said_more n w.events (event.Stop c))
-      (subst (λ (y : ClientState). ClientRuns catalog (w.events ++ event.Stop c ∷ []) c y.client) (hand_at w.client_slots t.place c t.client_slot t.number t.at) (rests_one w (event.Stop c) c (said_more c w.events (event.Stop c)) h (all c)))
-  step_runs prepared (event.Clock m) u t = λ n. subst (λ (x : State). ClientRuns catalog (w.events ++ event.Clock m ∷ []) n (states_of x.client_slots n).client) (sym t.1) (rests_one w (event.Clock m) n (said_more n w.events (event.Clock m)) h (all n))
-  step_runs prepared (event.Idle d) u t = λ n. subst (λ (x : State). ClientRuns catalog (w.events ++ event.Idle d ∷ []) n (states_of x.client_slots n).client) (sym t) (rests_one w (event.Idle d) n (said_more n w.events (event.Idle d)) h (all n))
+      moves_all w (event.Stop c) u t.place c t.client_slot (client_stopped t.client_slot) t.number t.at t.left h all (λ n apart. executed_more n w.events (event.Stop c))
+      (subst (λ (y : ClientState). ClientRuns catalog (w.events ++ event.Stop c ∷ []) c y.client) (hand_at w.client_slots t.place c t.client_slot t.number t.at) (rests_one w (event.Stop c) c (executed_more c w.events (event.Stop c)) h (all c)))
+  step_runs prepared (event.Clock m) u t = λ n. subst (λ (x : State). ClientRuns catalog (w.events ++ event.Clock m ∷ []) n (states_of x.client_slots n).client) (sym t.1) (rests_one w (event.Clock m) n (executed_more n w.events (event.Clock m)) h (all n))
+  step_runs prepared (event.Idle d) u t = λ n. subst (λ (x : State). ClientRuns catalog (w.events ++ event.Idle d ∷ []) n (states_of x.client_slots n).client) (sym t) (rests_one w (event.Idle d) n (executed_more n w.events (event.Idle d)) h (all n))
 
 ---- a whole execution
 

@@ -22,7 +22,7 @@ use Rattle.sdb_txn.specs.declared.txn.Doing.TheVariants as doing
 use Rattle.sdb_txn.specs.Txn.{TxnAt}
 use Rattle.sdb_client.specs.Client.{ClientAt, IsIdle, Taking, given_answer, given_left, gives, holding, plan_of, resting, with_begun}
 use Rattle.sdb_client.specs.Step.{AnsweredAtOnce, AtOnce, Begins, ByCatalog, CommitStarts, IsOnRows, LosesCommit, NoMemory, NoStatement, NoTable, NoneOpen, OpenAlready, OthersOpen, ReadKnown, ReadStarts, RollsBack, Step, Takes, VacuumRuns, VacuumStarts}
-use Rattle.law_clients.proofs.Public.{access_table, found_itself, literals_read, on_table, other_no_commit, own_table, take_said}
+use Rattle.law_clients.proofs.Public.{access_table, found_itself, literals_read, on_table, other_no_commit, own_table, take_executed}
 use Rattle.sdb_client.proofs.Public.{names_table}
 use Rattle.law_clients.specs.History.{executed_of_take}
 use Rattle.law_answers.specs.Invariant.{Knows, begun_in}
@@ -139,7 +139,7 @@ module _ (q : Taking) (is : is_catalog q.catalog ≡ true) (apart : (k : Key) �
   takes_runs a d t = by a (takes_comes a d t)
     where
       now : (b : Option Answer) → answered_of c (E b) ≡ k.entries ++ filter is_answered (one b ∷ [])
-      now b = ap (filter is_answered) (take_said c events text b) ∙ filter-append is_answered (statements_by c events) (one b ∷ []) ∙ ap (λ ss. ss ++ filter is_answered (one b ∷ [])) (answered_of_is q.catalog events c h k)
+      now b = ap (filter is_answered) (take_executed c events text b) ∙ filter-append is_answered (statements_by c events) (one b ∷ []) ∙ ap (λ ss. ss ++ filter is_answered (one b ∷ [])) (answered_of_is q.catalog events c h k)
 
       by : (b : Option Answer) → Comes b d → ClientRuns q.catalog (E b) c d
       by None z = steps.still_runs q.catalog events c h k runs (event.Take c text None) d (now None ∙ append-nil k.entries) z

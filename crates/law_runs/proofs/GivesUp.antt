@@ -36,7 +36,7 @@ use Rattle.law_answers.specs.Vacuums.{VacuumStageBy}
 use Rattle.law_runs.proofs.Takes.{TakenAs, taken_as}
 use Rattle.sdb_phases.specs.Work.{Work, look_of}
 use Rattle.law_runs.specs.World.{WorldAt, states_of, state_of}
-use Rattle.law_answers.proofs.Public.{after_last, after_more, call_said, clock_more, clock_same, commit_is, kept_in, made_at, none_yet, of_within, open_is, prepared_moment}
+use Rattle.law_answers.proofs.Public.{after_last, after_more, call_executed, clock_more, clock_same, commit_is, kept_in, made_at, none_yet, of_within, open_is, prepared_moment}
 use Rattle.law_clients.specs.History.{executed_with_answer, executed_of_take, waiting_of}
 use Rattle.law_runs.proofs.OwnPrepares.{calls_again, commit_waits, ends_commit, goes_further, work_doing, work_in, work_txn}
 use Rattle.law_runs.proofs.RowWrites.{commit_writes, data_not, read_not, recover_writes, writer_fits}
@@ -575,7 +575,7 @@ module _ (catalog : List Table) (events : List Event) (c : ℕ) (h d : ClientAt)
           let acked : statements_by c events ≡ k.entries ++ x ∷ [] = k.same ∙ ap (λ (o : Option Executed). k.entries ++ waiting_of o) waiting in
           inl (record {
             commit = subst (IsCommitOf (E (Some b)) c (executed_with_answer events x b)) (sym (own.0 ∙ z.is.same))
-                (commit_is (E (Some b)) (executed_with_answer events x b) k.small (call_said c events (made_at events store q how r) b k.entries x acked) z.is.text (ends_commit (executed_with_answer events x b) z.is.text) z.since);
+                (commit_is (E (Some b)) (executed_with_answer events x b) k.small (call_executed c events (made_at events store q how r) b k.entries x acked) z.is.text (ends_commit (executed_with_answer events x b) z.is.text) z.since);
             decision = own.1;
             asks = own.2 ∙ ap (λ (i : TxId). row_put i own.1 z.k.work.now) (sym own.0) ∙ ap (row_put id own.1) (shows (Some b));
           })

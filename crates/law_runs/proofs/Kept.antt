@@ -11,7 +11,7 @@ use Rattle.law_clients.specs.About.{IsOfTables}
 use Rattle.law_clients.specs.States.{IsAfter}
 use Rattle.law_runs.specs.World.{IsClientState, IsWorld, WorldAt, at_moment, with_event, with_client}
 use Rattle.sdb_client.specs.Execution.{client_after, client_stopped}
-use Rattle.law_runs.proofs.Seats.{set_here, set_length, set_other, suc_is}
+use Rattle.law_runs.proofs.Slots.{set_here, set_length, set_other, suc_is}
 use Rattle.law_runs.proofs.Ties.{IsApart, apart_pending, apart_stopped, apart_taken, own_call_pending, own_call_stopped, own_call_taken, own_stop_pending, own_stop_stopped, own_stop_taken, own_take_pending, own_take_stopped, own_take_taken}
 use Rattle.sdb_types.proofs.Public.{all_last as all_more, some_is}
 

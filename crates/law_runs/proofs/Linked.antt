@@ -15,13 +15,13 @@ use Rattle.sdb_client.specs.Client.{ClientAt as Client, Taking, nothing_done, ne
 use Rattle.sdb_client.specs.Step.{Receives, Step, Takes}
 use Rattle.law_clients.specs.System.{ClientAt, Stopped, SystemAt}
 use Rattle.law_clients.specs.Invariant.{ClientInvariant, IsOpenOf, RunInvariant, IsSilent}
-use Rattle.law_clients.proofs.Public.{going_rests, going_starts, going_stops, kept_at, mapped_at, replies_so, takes_so}
+use Rattle.law_clients.proofs.Public.{invariant_rests, invariant_starts, invariant_stops, kept_at, mapped_at, replies_so, takes_so}
 use Rattle.law_clients.specs.Fitting.{tables_are_well_typed}
 use Rattle.law_clients.specs.States.{ClientState, IsGated, IsReady, IsWaiting, doing_of, abstract_client, system_of, with_state}
 use Rattle.sdb_client.specs.Execution.{AreFresh, IsPlayable, client_after, client_stopped}
 use Rattle.law_runs.specs.World.{WorldAt, state_in, states_of, with_event, with_client}
 use Rattle.law_runs.specs.Linked.{IsLinked, on_one, one_name}
-use Rattle.law_runs.proofs.Seats.{hands_moved}
+use Rattle.law_runs.proofs.Slots.{hands_moved}
 use Rattle.law_runs.proofs.Ties.{itself}
 
 -- one event more, on the one store
@@ -43,14 +43,14 @@ fresh_hand count client_slots h (suc i) = by (slice_get client_slots i) refl
     by (Some s) e = ap (λ (t : ClientSlot). state_in (Some t) (suc i)) (h.each i s e)
 
 pub linked_first : (catalog : List Table) (count : ℕ) (client_slots : List ClientSlot) → AreFresh count client_slots → RunInvariant catalog (tables_are_well_typed catalog) [] (system_of (states_of client_slots)) (doing_of (states_of client_slots))
-linked_first catalog count client_slots h = same_going catalog [] (λ c. record { client = nothing_done c; stopped = false }) (states_of client_slots) (λ c. sym (fresh_hand count client_slots h c)) (going_starts catalog (tables_are_well_typed catalog))
+linked_first catalog count client_slots h = same_going catalog [] (λ c. record { client = nothing_done c; stopped = false }) (states_of client_slots) (λ c. sym (fresh_hand count client_slots h c)) (invariant_starts catalog (tables_are_well_typed catalog))
 
 ---- an event of no client's doing
 
 pub linked_rests : (w : WorldAt) (e : Event) → IsSilent (relocated_event (λ ns. one_name) e) → IsLinked w → IsLinked (with_event w e)
 linked_rests w e silent g =
     subst (λ (es : List Event). RunInvariant w.script.catalog (tables_are_well_typed w.script.catalog) es (system_of (states_of w.client_slots)) (doing_of (states_of w.client_slots))) (sym (on_one_more w.events e))
-    (going_rests w.script.catalog (tables_are_well_typed w.script.catalog) (on_one w.events) (system_of (states_of w.client_slots)) (doing_of (states_of w.client_slots)) (relocated_event (λ ns. one_name) e) silent g)
+    (invariant_rests w.script.catalog (tables_are_well_typed w.script.catalog) (on_one w.events) (system_of (states_of w.client_slots)) (doing_of (states_of w.client_slots)) (relocated_event (λ ns. one_name) e) silent g)
 
 ---- a client's own
 
@@ -120,7 +120,7 @@ linked_stops w i s here g =
     (free_doing w.script.catalog (tables_are_well_typed w.script.catalog) (on_one w.events ++ event.Stop (suc i) ∷ []) (system_of (at (states_of w.client_slots) (suc i) (stopped_hand s))) (at (doing_of (states_of w.client_slots)) (suc i) None) (doing_of (at (states_of w.client_slots) (suc i) (stopped_hand s))) (suc i)
     (rw (itself (suc i)) refl) other_same
     (subst (λ (y : SystemAt). RunInvariant w.script.catalog (tables_are_well_typed w.script.catalog) (on_one w.events ++ event.Stop (suc i) ∷ []) y (at (doing_of (states_of w.client_slots)) (suc i) None)) (λ k. record { clients = λ e. clients_same e k; begun = λ e. begun_same e k })
-    (going_stops w.script.catalog (tables_are_well_typed w.script.catalog) (on_one w.events) (system_of (states_of w.client_slots)) (doing_of (states_of w.client_slots)) g (suc i))))
+    (invariant_stops w.script.catalog (tables_are_well_typed w.script.catalog) (on_one w.events) (system_of (states_of w.client_slots)) (doing_of (states_of w.client_slots)) g (suc i))))
   where
     hand_is : states_of w.client_slots (suc i) ≡ record { client = s.client; stopped = s.stopped }
     hand_is = ap (λ (o : Option ClientSlot). state_in o (suc i)) here

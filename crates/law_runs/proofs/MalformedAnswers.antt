@@ -17,13 +17,13 @@ use Rattle.sdb_model.specs.Causes.{HasReply}
 use Rattle.sdb_model.specs.Exec.{table_of}
 use Rattle.sdb_model.specs.Transactions.{Executed, statements_by}
 use Rattle.law_clients.proofs.Public.{other_no_commit}
-use Rattle.law_answers.proofs.Public.{each_in, no_sweep}
+use Rattle.law_answers.proofs.Public.{each_in, never_vacuum}
 use Rattle.sdb_client.specs.Execution.{IsExecution, IsPlayable}
 use Rattle.law_runs.specs.Complete.{IsOnTable}
 use Rattle.law_runs.specs.Malformed.{FindsMalformed, IsTransactional, MalformedAreAnswered, MalformedEndAtOnce, MalformedEnds, VacuumsMeetMalformed}
 use Rattle.law_runs.proofs.MalformedReads.{IsOpenIn, first_is, inside, none_bad, passes}
 use Rattle.law_runs.proofs.MalformedStatements.{EndsEarly, IsEndOf, reads_end}
-use Rattle.law_runs.proofs.MalformedSweeps.{scans_end}
+use Rattle.law_runs.proofs.MalformedVacuums.{scans_end}
 use Rattle.law_runs.proofs.Statements.{none_in}
 use Rattle.law_runs.proofs.Steps.{execution_caused}
 
@@ -126,7 +126,7 @@ module _ (script : Script) (events : List Event) (playable : IsPlayable script) 
 
   end_of_read : (client : ℕ) (s : Executed) (st : Statement) (a : Answer) (before : List Record) (r : Record) → Contains (statements_by client events) s → s.answer ≡ Some a → IsOnTable s.text st → (f : FindsMalformed (calls_of events client s) before r) → IsEndOf (calls_of events client s) f.read a
   end_of_read client s st a before r has is on f =
-      reads_end script events playable x client s a has is (other_no_commit s.text st on.reads (on_table st statement.Commit on.table refl)) (no_sweep s.text st on.reads (on_table st statement.Vacuum on.table refl)) f.read f.among f.reads
+      reads_end script events playable x client s a has is (other_no_commit s.text st on.reads (on_table st statement.Commit on.table refl)) (never_vacuum s.text st on.reads (on_table st statement.Vacuum on.table refl)) f.read f.among f.reads
 
   -- A statement that finds a malformed record ends so.
   pub execution_malformed : MalformedAreAnswered events

@@ -5,7 +5,7 @@ use Rattle.sdb_types.specs.Contents.{Contents}
 use Rattle.sdb_model.specs.Rows.{Name}
 use Rattle.sdb_model.specs.Events.{Effect, IsTrace, StoreContents, moment, stored_at}
 use Rattle.law_protocol.specs.Spread.{AreAbout, HoldAs, relocated_event, relocated_events, one_store}
-use Rattle.law_protocol.proofs.Public.{one_standing, single}
+use Rattle.law_protocol.proofs.Public.{one_stored, single}
 use Rattle.sdb_model.specs.Tables.{is_table_of_run}
 
 -- The one store's moments: beside each moment of several stores one at which it holds the same of the tables.
@@ -17,7 +17,7 @@ pub record Alone (catalog : List Table) (name : Name) (places : List Place) (eve
   pub agrees : (n : ℕ) (key : Key) → is_table_of_run catalog key.table ≡ true → stored_at places (moment before moments n) key ≡ stored_at [] (moment (one_store name m) singles n) key
 
 held_here : (catalog : List Table) (name : Name) (places : List Place) (before : List StoreContents) (m : Contents) → HoldAs catalog places before m → (key : Key) → is_table_of_run catalog key.table ≡ true → stored_at places before key ≡ stored_at [] (one_store name m) key
-held_here catalog name places before m h key about = h.at key about ∙ sym (one_standing name m key)
+held_here catalog name places before m h key about = h.at key about ∙ sym (one_stored name m key)
 
 -- the effect of a trace's lone event
 pub lone_effect : (places : List Place) (e : Event) (before now : List StoreContents) (moments : List (List StoreContents)) → IsTrace places (e ∷ []) before moments now → Effect places e before now

@@ -16,9 +16,9 @@ use Rattle.sdb_vacuum.specs.Vacuum.{VacuumAt}
 use Rattle.sdb_client.specs.Client.{ClientAt}
 use Rattle.law_clients.specs.States.{ClientState}
 use Rattle.law_clients.specs.History.{executed_with_answer, executed_of_take, waiting_of}
-use Rattle.law_clients.proofs.Public.{others_silent, said_more, take_said}
+use Rattle.law_clients.proofs.Public.{others_silent, executed_more, take_executed}
 use Rattle.law_answers.specs.Invariant.{IsAnswered, IsDoing, IsWaiting, Knows, DoingByHistory, ClientByHistory, begun_in, open_after}
-use Rattle.law_answers.proofs.Public.{call_said, made_at, silent_said, take_open}
+use Rattle.law_answers.proofs.Public.{call_executed, made_at, silent_executed, take_open}
 use Rattle.sdb_client.specs.Execution.{IsExecution, IsPath, IsPlayable, IsStepFrom, State}
 use Rattle.law_runs.specs.Found.{IsNewRead, ReadsAreNew, is_answered, takes_part}
 use Rattle.law_runs.specs.World.{WorldAt, states_of, state_of}
@@ -73,7 +73,7 @@ module _ (w : WorldAt) (h : Holds w) (all : AllRun w) (so : AllSo NothingMore Wa
       k = h.caused.each c
 
       now : (b : Option Answer) → answered_of c (w.events ++ event.Take c text b ∷ []) ≡ answered_of c w.events ++ filter is_answered (executed_of_take w.events text b ∷ [])
-      now b = ap (filter is_answered) (take_said c w.events text b) ∙ filter-append is_answered (statements_by c w.events) (executed_of_take w.events text b ∷ [])
+      now b = ap (filter is_answered) (take_executed c w.events text b) ∙ filter-append is_answered (statements_by c w.events) (executed_of_take w.events text b ∷ [])
 
       by : (b : Option Answer) → a ≡ b → AllNew (w.events ++ event.Take c text b ∷ []) c (answered_of c (w.events ++ event.Take c text b ∷ []))
       by None e = subst (AllNew (w.events ++ event.Take c text None ∷ []) c) (sym (now None ∙ append-nil (answered_of c w.events))) (all_stay catalog w.events (event.Take c text None) c (answered_of c w.events) (answered_each catalog w.events c (states_of w.client_slots c).client k) (new c))
@@ -83,9 +83,9 @@ module _ (w : WorldAt) (h : Holds w) (all : AllRun w) (so : AllSo NothingMore Wa
 
   step_new : (e : Event) (u : State) → IsStepFrom w.script (state_of w) e u → AllReadNew (led w e u)
   step_new (event.Take c text a) u t n = by_nat c n (λ same. subst (λ (x : ℕ). AllNew (w.events ++ event.Take c text a ∷ []) x (answered_of x (w.events ++ event.Take c text a ∷ []))) same (take_step c text a)) (λ apart. others_new (event.Take c text a) n (others_silent w.events n c (event.Take c text a) apart refl))
-  step_new (event.Stop c) u t n = others_new (event.Stop c) n (said_more n w.events (event.Stop c))
-  step_new (event.Clock m) u t n = others_new (event.Clock m) n (said_more n w.events (event.Clock m))
-  step_new (event.Idle d) u t n = others_new (event.Idle d) n (said_more n w.events (event.Idle d))
+  step_new (event.Stop c) u t n = others_new (event.Stop c) n (executed_more n w.events (event.Stop c))
+  step_new (event.Clock m) u t n = others_new (event.Clock m) n (executed_more n w.events (event.Clock m))
+  step_new (event.Idle d) u t n = others_new (event.Idle d) n (executed_more n w.events (event.Idle d))
   step_new (event.Call c store q how r a) u t n = by_nat c n (λ same. subst (λ (x : ℕ). AllNew (w.events ++ event.Call c store q how r a ∷ []) x (answered_of x (w.events ++ event.Call c store q how r a ∷ []))) same (by a refl)) (λ apart. others_new (event.Call c store q how r a) n (others_silent w.events n c (event.Call c store q how r a) apart refl))
     where
       next_state : states_of w.client_slots c ≡ record { client = t.client_slot.client; stopped = t.client_slot.stopped }
@@ -101,10 +101,10 @@ module _ (w : WorldAt) (h : Holds w) (all : AllRun w) (so : AllSo NothingMore Wa
       waits = waits_of catalog w.events c t.client_slot.client k x.0 x.1
 
       by : (b : Option Answer) → a ≡ b → AllNew (w.events ++ event.Call c store q how r b ∷ []) c (answered_of c (w.events ++ event.Call c store q how r b ∷ []))
-      by None e = rests_new catalog w.events (event.Call c store q how r None) c t.client_slot.client k (silent_said c w.events store q how r) (new c)
+      by None e = rests_new catalog w.events (event.Call c store q how r None) c t.client_slot.client k (silent_executed c w.events store q how r) (new c)
       by (Some b) e =
           ends_new catalog w.events (event.Call c store q how r (Some b)) c t.client_slot.client k (executed_with_answer w.events x.0 b)
-          (ap (filter is_answered) (call_said c w.events (made_at w.events store q how r) b k.entries x.0 (k.same ∙ ap (λ (o : Option Executed). k.entries ++ waiting_of o) x.1)) ∙ filter-append is_answered k.entries (executed_with_answer w.events x.0 b ∷ []) ∙ ap (λ ss. ss ++ executed_with_answer w.events x.0 b ∷ []) (all_answered catalog w.events c k.entries k.answered)) (new c)
+          (ap (filter is_answered) (call_executed c w.events (made_at w.events store q how r) b k.entries x.0 (k.same ∙ ap (λ (o : Option Executed). k.entries ++ waiting_of o) x.1)) ∙ filter-append is_answered k.entries (executed_with_answer w.events x.0 b ∷ []) ∙ ap (λ ss. ss ++ executed_with_answer w.events x.0 b ∷ []) (all_answered catalog w.events c k.entries k.answered)) (new c)
           (answered_new catalog w.events c t.client_slot.client t.client k (subst (λ (y : ClientState). ClientRuns catalog w.events c y.client) next_state (all c)) store q how r w.clock x.0 b waits (wait_new w so c t.client_slot.client (ap (λ (y : ClientState). y.client) next_state) k x.0 x.1 waits)
           (subst (λ (o : Option Answer). CallOf catalog w.events c k.entries x.0 t.client_slot.client q r w.clock o t.client) e (call_of catalog w.events c t.client_slot.client k x.0 x.1 q r w.clock a t.client t.pending (h.world.each t.place t.client_slot t.at).fitted t.takes)))
 

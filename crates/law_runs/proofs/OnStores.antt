@@ -9,13 +9,13 @@ use Rattle.sdb_model.specs.Events.{stored_at}
 use Rattle.sdb_model.specs.Exec.{find_table}
 use Rattle.sdb_model.specs.Transactions.{Recorded}
 use Rattle.law_protocol.specs.Spread.{relocated_events, one_store}
-use Rattle.law_protocol.proofs.Public.{commit_moved, one_standing, point_moved, Single, single}
+use Rattle.law_protocol.proofs.Public.{commit_moved, one_stored, point_moved, Single, single}
 use Rattle.law_runs.specs.Points.{HavePoints}
 use Rattle.law_runs.specs.Stores.{AreSound}
 use Rattle.law_runs.proofs.Ended.{decides, starts_empty}
 use Rattle.law_runs.proofs.Recorded.{have_points}
 use Rattle.law_runs.proofs.Runs.{ByLaws, by_laws}
-use Rattle.law_runs.proofs.Standing.{are_known}
+use Rattle.law_runs.proofs.StoredRecords.{are_known}
 use Rattle.sdb_types.proofs.Public.{or_true}
 use Rattle.sdb_model.specs.Tables.{is_table_of_run}
 use Rattle.law_runs.specs.Traces.{TraceOnStores}
@@ -46,7 +46,7 @@ module _ (script : Script) (t : TraceOnStores script) where
       }
 
   stands_there : (k : Key) (r : Record) → is_table_of_run script.catalog k.table ≡ true → stored_at script.places t.closing k ≡ Some r → stored_at [] (one_store t.running.name one.last) k ≡ Some r
-  stands_there k r about h = one_standing t.running.name one.last k ∙ sym (one.same.at k about) ∙ h
+  stands_there k r about h = one_stored t.running.name one.last k ∙ sym (one.same.at k about) ∙ h
 
   pub sound_on_stores : AreSound script.catalog script.places t.closing
   sound_on_stores =

@@ -5,7 +5,7 @@ use Rattle.law_runs.specs.Types.{Event, Key, Pair, Place, Record, Reply, Request
 use Rattle.sdb_types.specs.declared.record.Request.TheVariants as ask
 use Rattle.sdb_types.specs.Contents.{Contents, after, holds, record_at}
 use Rattle.sdb_types.specs.Order.{same_key}
-use Rattle.sdb_types.proofs.Public.{same_key_tells}
+use Rattle.sdb_types.proofs.Public.{same_key_decides}
 use Rattle.sdb_types.specs.declared.record.Condition.TheVariants as condition
 use Rattle.sdb_record.specs.declared.coordinator.Decision.TheVariants.{Committed, Aborted}
 use Rattle.sdb_record.specs.Coordinator.{coordinator_key_of}
@@ -19,7 +19,7 @@ use Rattle.law_protocol.specs.History.{Action, Other, Begins, Takes, Prepares, C
 use Rattle.law_protocol.specs.Lawful.{IsCallOf, IsLawful, IsUnchanged, IsEnabled, MayRoll, Labelled, id, is_quiet}
 use Rattle.law_protocol.specs.Plan.{Plan}
 use Rattle.law_protocol.specs.Trace.{IsTraced, StartsEmpty, closing, history}
-use Rattle.law_protocol.proofs.Public.{after_delete, after_put, at_call, AtCall, held_key, Knows, prepared_there, taken_fits, whole, write_key}
+use Rattle.law_protocol.proofs.Public.{after_delete, after_put, at_call, AtCall, held_key, Knows, prepared_there, accepted_fits, whole, write_key}
 use Rattle.sdb_model.specs.Tables.{is_data}
 
 -- the key of a transaction's row
@@ -46,7 +46,7 @@ PutsAt (event.Idle client) k = ⊥
 left_or_put : (q : Request) (m : Contents) (k : Key) (row : Record) → record_at (after q m) k ≡ Some row → (record_at m k ≡ Some row) ⊎ PutsBy q k
 left_or_put (ask.Get key) m k row h = inl h
 left_or_put (ask.Scan span) m k row h = inl h
-left_or_put (ask.PutIf rec c) m k row h = by (holds c (record_at m rec.key)) (same_key k rec.key) (same_key_tells k rec.key) (sym (after_put rec c m k) ∙ h)
+left_or_put (ask.PutIf rec c) m k row h = by (holds c (record_at m rec.key)) (same_key k rec.key) (same_key_decides k rec.key) (sym (after_put rec c m k) ∙ h)
   where
     by : (b s : Bool) → ((s ≡ true) × (k ≡ rec.key)) ⊎ ((s ≡ false) × (k ≢ rec.key)) → (if b && s then Some rec else record_at m k) ≡ Some row → (record_at m k ≡ Some row) ⊎ (rec.key ≡ k)
     by b s (inl e) h = inr (sym e.1)
@@ -130,7 +130,7 @@ puts_row plan w past e (Prepares t (k ∷ []) word) q knows m row put =
 puts_row plan w past e (Checks t i) q knows m row put = absurd (check_puts_none (plan t) m.item m.q m.r q m.unchanged (called e m.client m.q m.r q m.call put))
 puts_row plan w past e (Decides t word) q knows m row put = record {
   t = t;
-  fits = taken_fits w t knows.inv.begun knows.fits (subst (λ (x : ProtocolState). x.accepted t ≡ true) knows.talks m.within.accepted);
+  fits = accepted_fits w t knows.inv.begun knows.fits (subst (λ (x : ProtocolState). x.accepted t ≡ true) knows.talks m.within.accepted);
   same = sym (called e m.client _ m.r q m.call put) ∙ row-key (id t) Committed (plan t).now;
 }
 puts_row plan w past e (Aborts t moment word) q knows m row put = record {

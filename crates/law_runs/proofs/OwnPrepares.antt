@@ -27,7 +27,7 @@ use Rattle.sdb_exec.specs.Plans.{Planned}
 use Rattle.law_clients.specs.History.{executed_with_answer, executed_of_take, waiting_of}
 use Rattle.sdb_txn.specs.Phases.{CommitAt}
 use Rattle.law_answers.specs.Invariant.{IsAnswered, IsDoing, IsOpenAs, IsWaiting, Knows, DoingByHistory, ClientByHistory}
-use Rattle.law_answers.proofs.Public.{call_said, clock_more, clock_same, commit_is, made_at, none_yet}
+use Rattle.law_answers.proofs.Public.{call_executed, clock_more, clock_same, commit_is, made_at, none_yet}
 use Rattle.sdb_client.specs.Execution.{IsExecution, IsPlayable, State, TakeStep}
 use Rattle.law_runs.specs.Laws.{IsOwnPrepare, PreparesAreOwn}
 use Rattle.law_runs.specs.World.{WorldAt, states_of, state_of}
@@ -241,7 +241,7 @@ module _ (catalog : List Table) (events : List Event) (c : ℕ) (h d : ClientAt)
           let answered : statements_by c events ≡ k.entries ++ x ∷ [] = k.same ∙ ap (λ (o : Option Executed). k.entries ++ waiting_of o) waiting in
           record {
             commit = subst (IsCommitOf (E (Some b)) c (executed_with_answer events x b)) (sym (found.0 ∙ z.is.same))
-                (commit_is (E (Some b)) (executed_with_answer events x b) k.small (call_said c events (made_at events store q how r) b k.entries x answered) z.is.text (ends_commit (executed_with_answer events x b) z.is.text) z.since);
+                (commit_is (E (Some b)) (executed_with_answer events x b) k.small (call_executed c events (made_at events store q how r) b k.entries x answered) z.is.text (ends_commit (executed_with_answer events x b) z.is.text) z.since);
             moment = found.1 ∙ ap Some (was.0 ∙ sym (clock_same events (event.Call c store q how r (Some b)) x.accepted waits.accepted));
           }
 

@@ -1,7 +1,7 @@
 -- The lemmas of this crate that others cite.
 pub use Rattle.law_runs.proofs.Beginnings.{invariant_on_one, no_coordinator}
-pub use Rattle.law_runs.proofs.Ended.{decides, going_is_run_on_stores, starts_empty}
-pub use Rattle.law_runs.proofs.Explains.{going_is_explained, going_is_taken}
+pub use Rattle.law_runs.proofs.Ended.{decides, invariant_is_run_on_stores, starts_empty}
+pub use Rattle.law_runs.proofs.Explains.{invariant_is_explained, invariant_is_accepted}
 pub use Rattle.law_runs.proofs.Finding.{answers_as, answers_committed}
 pub use Rattle.law_runs.proofs.First.{world_first}
 pub use Rattle.law_runs.proofs.Moments.{lone_effect}

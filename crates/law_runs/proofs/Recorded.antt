@@ -17,14 +17,14 @@ use Rattle.law_runs.proofs.Runs.{ByLaws}
 
 ---- the event that took a COMMIT
 
-heard_taken : (h : ProtocolState) (r : Action) (t : ℕ) → (h.accepted t ≡ true → 0 < h.taken_at t) → (state_after_event h r).accepted t ≡ true → 0 < (state_after_event h r).taken_at t
+heard_taken : (h : ProtocolState) (r : Action) (t : ℕ) → (h.accepted t ≡ true → 0 < h.accepted_at t) → (state_after_event h r).accepted t ≡ true → 0 < (state_after_event h r).accepted_at t
 heard_taken h r t before accepted = grind (arith, nat_tests)
 
-ended_taken : (h : ProtocolState) (o : Option ℕ) (t : ℕ) → (h.accepted t ≡ true → 0 < h.taken_at t) → (ended h o).accepted t ≡ true → 0 < (ended h o).taken_at t
+ended_taken : (h : ProtocolState) (o : Option ℕ) (t : ℕ) → (h.accepted t ≡ true → 0 < h.accepted_at t) → (ended h o).accepted t ≡ true → 0 < (ended h o).accepted_at t
 ended_taken h None t before accepted = before accepted
 ended_taken h (Some u) t before accepted = before accepted
 
-taken_after : (past : List Labelled) (t : ℕ) → (protocol_state past).accepted t ≡ true → 0 < (protocol_state past).taken_at t
+taken_after : (past : List Labelled) (t : ℕ) → (protocol_state past).accepted t ≡ true → 0 < (protocol_state past).accepted_at t
 taken_after [] t accepted = absurd (cc)
 taken_after (p ∷ past) t accepted = ended_taken (state_after_event (protocol_state past) p.action) p.ends t (heard_taken (protocol_state past) p.action t (taken_after past t)) accepted
 
@@ -54,7 +54,7 @@ module _ (places : List Place) (events : List Event) (opening end : List StoreCo
   point_is t fits recorded = ap (λ es. point es (id t)) b.same ∙ point_of b.labelled t b.run b.faithful fits (taken_of t fits recorded) ∙ ap (λ (x : ProtocolState). x.point t) whole.knows.talks
 
   commit_taken : (t : ℕ) → t < 2 ^ 128 → Recorded places end (id t) → IsSome (commit_of events (id t))
-  commit_taken t fits recorded = subst (λ es. IsSome (commit_of es (id t))) (sym b.same) (some_of (commit_of (events_of b.labelled) (id t)) ((protocol_state (newest_first b.labelled)).taken_at t) (b.faithful.accepted t (taken_of t fits recorded)) (taken_after (newest_first b.labelled) t (taken_of t fits recorded)))
+  commit_taken t fits recorded = subst (λ es. IsSome (commit_of es (id t))) (sym b.same) (some_of (commit_of (events_of b.labelled) (id t)) ((protocol_state (newest_first b.labelled)).accepted_at t) (b.faithful.accepted t (taken_of t fits recorded)) (taken_after (newest_first b.labelled) t (taken_of t fits recorded)))
 
   positive : (t : ℕ) → t < 2 ^ 128 → Recorded places end (id t) → point events (id t) ≢ 0
   positive t fits recorded e = above (point_is t fits recorded) e ((whole.all.one.begun t).1 (was_taken t (row_of t fits recorded))).1

@@ -11,7 +11,7 @@ use Rattle.law_protocol.specs.Trace.{IsTraced, StartsEmpty, closing}
 use Rattle.law_protocol.proofs.Public.{traced_of}
 use Rattle.law_clients.specs.System.{SystemAt, SystemOk}
 use Rattle.law_clients.specs.History.{AllStories}
-use Rattle.law_clients.proofs.Public.{clients_faithful, going_is_noted}
+use Rattle.law_clients.proofs.Public.{clients_faithful, invariant_is_read_sets}
 use Rattle.law_clients.specs.Invariant.{RunInvariant}
 
 -- The parts of the events, which with these moments are a run of the laws. The plans' notes are what the statements noted.
@@ -37,7 +37,7 @@ lawful_run catalog fit events sys doing places opening end moments g trace empty
   faithful = clients_faithful g.plan (events_of g.labelled) (newest_first g.labelled) sys g.answered
       (subst (λ ps. SystemOk g.plan ps sys) g.turned g.system)
       (subst (λ ps. AllStories (events_of g.labelled) ps sys g.answered) g.turned (subst (λ es. AllStories es g.past sys g.answered) g.same g.stories));
-  as_read = subst (λ ps. AreReadSets g.plan (events_of g.labelled) ps) g.turned (subst (λ es. AreReadSets g.plan es g.past) g.same (going_is_noted catalog fit events sys doing g));
+  as_read = subst (λ ps. AreReadSets g.plan (events_of g.labelled) ps) g.turned (subst (λ es. AreReadSets g.plan es g.past) g.same (invariant_is_read_sets catalog fit events sys doing g));
 }
 
 -- The parts of the events, and what the stores held, newest first.

@@ -14,14 +14,14 @@ use Rattle.sdb_model.specs.Transactions.{Executed, statements_by}
 use Rattle.sdb_client.specs.Client.{ClientAt}
 use Rattle.law_clients.specs.States.{ClientState}
 use Rattle.law_clients.specs.History.{executed_with_answer, executed_of_take, waiting_of}
-use Rattle.law_clients.proofs.Public.{others_silent, said_more, take_said}
+use Rattle.law_clients.proofs.Public.{others_silent, executed_more, take_executed}
 use Rattle.law_answers.specs.Invariant.{IsAnswered, IsWaiting, Knows}
-use Rattle.law_answers.proofs.Public.{call_said, calls_open, calls_stay, calls_wait, clock_same, commit_stays, each_in, end_answered, end_waiting, Grows, later_calls, later_more, made_at, own_made, silent_said}
+use Rattle.law_answers.proofs.Public.{call_executed, calls_open, calls_stay, calls_wait, clock_same, commit_stays, each_in, end_answered, end_waiting, Grows, later_calls, later_more, made_at, own_made, silent_executed}
 use Rattle.sdb_client.specs.Execution.{CallStep, IsExecution, IsPath, IsPlayable, IsStepFrom, State, TakeStep, client_after, client_stopped}
 use Rattle.law_runs.specs.World.{WorldAt, state_in, states_of, state_of, with_event, with_client}
 use Rattle.law_runs.proofs.Kept.{by_nat}
 use Rattle.law_runs.proofs.Replies.{idle_rests, pends_waits}
-use Rattle.law_runs.proofs.Seats.{set_here, set_other}
+use Rattle.law_runs.proofs.Slots.{set_here, set_other}
 use Rattle.law_runs.proofs.Steps.{Holds, at_place, first_holds, led, step_holds}
 
 -- a statement without an answer, and with the answer that a reply gives it
@@ -149,13 +149,13 @@ module _ (A : List Table → List Event → ℕ → Executed → Type 0) (W : Li
   -- its client takes a statement
   own_take : (catalog : List Table) (events : List Event) (c : ℕ) (h d : ClientAt) (text : List ℕ) (a : Option Answer) (k : Knows catalog events c h) → k.waiting ≡ None → ((s : Executed) → Contains (statements_by c events) s → SoOver A W catalog events c s h s.answer) → SoOver A W catalog (events ++ event.Take c text a ∷ []) c (executed_of_take events text a) d a
       → (s : Executed) → Contains (statements_by c (events ++ event.Take c text a ∷ [])) s → SoOver A W catalog (events ++ event.Take c text a ∷ []) c s d s.answer
-  own_take catalog events c h d text a k rests so now s has = by (Contains-push_cases (statements_by c events) (executed_of_take events text a) s (subst (λ (ss : List Executed). Contains ss s) (take_said c events text a) has))
+  own_take catalog events c h d text a k rests so now s has = by (Contains-push_cases (statements_by c events) (executed_of_take events text a) s (subst (λ (ss : List Executed). Contains ss s) (take_executed c events text a) has))
     where
       E : Event
       E = event.Take c text a
 
       old : Contains (statements_by c events) s → IsAnswered catalog events c s ⊎ (k.waiting ≡ Some s) → SoOver A W catalog (events ++ E ∷ []) c s d s.answer
-      old before (inl x) = old_one catalog events E c h d s (inr (inl (executed_of_take events text a, take_said c events text a))) x (so s before)
+      old before (inl x) = old_one catalog events E c h d s (inr (inl (executed_of_take events text a, take_executed c events text a))) x (so s before)
       old before (inr waiting) = none_some s (sym rests ∙ waiting)
 
       by : Contains (statements_by c events) s ⊎ (executed_of_take events text a ≡ s) → SoOver A W catalog (events ++ E ∷ []) c s d s.answer
@@ -168,7 +168,7 @@ module _ (A : List Table → List Event → ℕ → Executed → Type 0) (W : Li
   own_call catalog events c h d store q how r None k x waiting waits so now s has = by (known catalog events c h k s before)
     where
       says : statements_by c (events ++ event.Call c store q how r None ∷ []) ≡ statements_by c events
-      says = silent_said c events store q how r
+      says = silent_executed c events store q how r
 
       before : Contains (statements_by c events) s
       before = subst (λ (ss : List Executed). Contains ss s) says has
@@ -185,7 +185,7 @@ module _ (A : List Table → List Event → ℕ → Executed → Type 0) (W : Li
       answered = k.same ∙ ap (λ (o : Option Executed). k.entries ++ waiting_of o) waiting
 
       says : statements_by c (events ++ event.Call c store q how r (Some b) ∷ []) ≡ k.entries ++ executed_with_answer events x b ∷ []
-      says = call_said c events (made_at events store q how r) b k.entries x answered
+      says = call_executed c events (made_at events store q how r) b k.entries x answered
 
       by : Contains k.entries s ⊎ (executed_with_answer events x b ≡ s) → SoOver A W catalog (events ++ event.Call c store q how r (Some b) ∷ []) c s d s.answer
       by (inl t) =
@@ -262,11 +262,11 @@ module _ (A : List Table → List Event → ℕ → Executed → Type 0) (W : Li
           (λ k x waiting waits so. kept.calls w u c store q how r a t h k x waiting waits so)
   step_so w (event.Stop c) u t h so =
       at_place (AllSo A W) w (λ n. event.Stop n) c t.place (client_stopped t.client_slot) u t.number t.left
-      (moves_so w t.place t.client_slot (client_stopped t.client_slot) (event.Stop (suc t.place)) t.at h so (λ n apart. said_more n w.events (event.Stop (suc t.place))) (λ n apart. refl)
-      (others A W kept w.script.catalog w.events (event.Stop (suc t.place)) (suc t.place) t.client_slot.client (at_hand (Knows w.script.catalog w.events (suc t.place)) w.client_slots t.place t.client_slot t.at (h.caused.each (suc t.place))) (said_more (suc t.place) w.events (event.Stop (suc t.place))) refl
+      (moves_so w t.place t.client_slot (client_stopped t.client_slot) (event.Stop (suc t.place)) t.at h so (λ n apart. executed_more n w.events (event.Stop (suc t.place))) (λ n apart. refl)
+      (others A W kept w.script.catalog w.events (event.Stop (suc t.place)) (suc t.place) t.client_slot.client (at_hand (Knows w.script.catalog w.events (suc t.place)) w.client_slots t.place t.client_slot t.at (h.caused.each (suc t.place))) (executed_more (suc t.place) w.events (event.Stop (suc t.place))) refl
       (λ x has. at_hand (λ (d : ClientAt). SoOver A W w.script.catalog w.events (suc t.place) x d x.answer) w.client_slots t.place t.client_slot t.at (so (suc t.place) x has))))
-  step_so w (event.Clock m) u t h so = rests_so w u.client_slots u.clock (event.Clock m) (ap (λ (x : State). x.client_slots) t.1) h so (λ c. said_more c w.events (event.Clock m)) (λ c. refl)
-  step_so w (event.Idle d) u t h so = rests_so w u.client_slots u.clock (event.Idle d) (ap (λ (x : State). x.client_slots) t) h so (λ c. said_more c w.events (event.Idle d)) (λ c. refl)
+  step_so w (event.Clock m) u t h so = rests_so w u.client_slots u.clock (event.Clock m) (ap (λ (x : State). x.client_slots) t.1) h so (λ c. executed_more c w.events (event.Clock m)) (λ c. refl)
+  step_so w (event.Idle d) u t h so = rests_so w u.client_slots u.clock (event.Idle d) (ap (λ (x : State). x.client_slots) t) h so (λ c. executed_more c w.events (event.Idle d)) (λ c. refl)
 
   path_so : (es : List Event) (w : WorldAt) (t : State) → IsPath w.script (state_of w) es t → Holds w → AllSo A W w → AllSo A W (record { script = w.script; client_slots = t.client_slots; events = w.events ++ es; clock = t.clock })
   path_so [] w t h k so =

@@ -24,7 +24,7 @@ use Rattle.law_runs.proofs.Linked.{linked_calls, linked_first, linked_rests, lin
 use Rattle.law_runs.proofs.Causing.{caused_calls, caused_idles, caused_new, caused_stops, caused_takes, caused_ticks, gated_by, outcome_caused}
 use Rattle.law_runs.proofs.First.{world_first}
 use Rattle.law_runs.proofs.Gates.{gated_at}
-use Rattle.law_runs.proofs.Seats.{suc_is}
+use Rattle.law_runs.proofs.Slots.{suc_is}
 
 -- the events so far and one more, which leads to a state
 abbrev pub led : WorldAt → Event → State → WorldAt

@@ -31,8 +31,8 @@ use Rattle.law_runs.proofs.GivesUp.{each_of}
 use Rattle.law_runs.proofs.Replies.{CallOf, SweepCall, call_of}
 use Rattle.law_runs.proofs.Statements.{AreKept, SoBy, calls_more, known, none_in, replied_said, statements_so, waits_of}
 use Rattle.law_runs.proofs.Steps.{Holds, execution_caused, execution_holds}
-use Rattle.law_runs.proofs.SweepCalls.{MostLeft, most_enough, most_more, most_so_far}
-use Rattle.law_runs.proofs.Sweeping.{AllDelete, AllDeleted, Going, LedTo, deletes_more, in_order, sweep_led}
+use Rattle.law_runs.proofs.VacuumCalls.{MostLeft, most_enough, most_more, most_so_far}
+use Rattle.law_runs.proofs.Vacuuming.{AllDelete, AllDeleted, Going, LedTo, deletes_more, in_order, sweep_led}
 use Rattle.law_runs.proofs.Takes.{TakenAs, taken_as, VacuumAtOnce, vacuum_taken}
 use Rattle.sdb_model.specs.Tables.{is_data}
 

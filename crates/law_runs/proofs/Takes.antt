@@ -15,7 +15,7 @@ use Rattle.sdb_client.specs.Step.{AnsweredAtOnce, AtOnce, Begins, ByCatalog, Com
 use Rattle.sdb_client.proofs.Public.{names_table}
 use Rattle.sdb_sqltext.proofs.Public.{not_both, vacuum_read}
 use Rattle.law_clients.proofs.Public.{IsOnTable, on_table, other_no_commit, refused_no_commit}
-use Rattle.law_answers.proofs.Public.{no_sweep}
+use Rattle.law_answers.proofs.Public.{never_vacuum}
 
 -- its COMMIT has its first call pending
 pub record TakesCommit (q : Taking) (h d : ClientAt) : Type 0 where
@@ -62,7 +62,7 @@ module _ (q : Taking) (text : List ℕ) (h : ClientAt) where
   no_commit st reads other e = clash (sym e ∙ other_no_commit text st reads other)
 
   no_vacuum : {X : Type 0} (st : Statement) → Reads text st → st ≢ statement.Vacuum → reads_vacuum text ≡ true → X
-  no_vacuum st reads other e = clash (sym e ∙ no_sweep text st reads other)
+  no_vacuum st reads other e = clash (sym e ∙ never_vacuum text st reads other)
 
   kind : (t : TxnAt) (table : Table) (st : Statement) → IsOnRows h q text t table st → IsOnTable st
   kind t table st on = on_table st (names_table q.catalog st table on.named)

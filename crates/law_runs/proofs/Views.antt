@@ -30,7 +30,7 @@ use Rattle.sdb_client.specs.Client.{with_rows_read}
 use Rattle.law_clients.specs.Fitting.{row_is_well_typed}
 use Rattle.law_clients.proofs.Public.{access_table}
 use Rattle.law_answers.specs.Changes.{HasRead, IsRows, IsSettledAs}
-use Rattle.law_answers.proofs.Public.{at_note, data_read, found_new, get_fitting, IsDataTable, noted_now, same_writes, settled_means, unwritten}
+use Rattle.law_answers.proofs.Public.{at_note, data_read, found_new, get_fitting, IsDataTable, rows_read_now, same_writes, settled_means, unwritten}
 use Rattle.law_answers.specs.Unfit.{fits_catalog, fitting_part}
 use Rattle.law_runs.specs.Found.{View, found_by, found_in, has_found, is_misfit_row, with_found, with_one_found}
 
@@ -244,7 +244,7 @@ module _ (catalog : List Table) (v : View) (t : TxnAt) (a : Access) (images : Li
   row_by q x = row_with (write_among t.seen.writes q) (at_note x)
 
   row_now : (q : Key) → row_seen now.read_set now.writes q ≡ row_by q (or_else (value_at t.seen.read_set q) (found_new a images q))
-  row_now q = ap (λ ws. row_with (write_among ws q) (at_note (value_at now.read_set q))) (same_writes t a images) ∙ ap (row_by q) (noted_now t a images q)
+  row_now q = ap (λ ws. row_with (write_among ws q) (at_note (value_at now.read_set q))) (same_writes t a images) ∙ ap (row_by q) (rows_read_now t a images q)
 
   -- nothing was written where nothing was read
   none_written : (q : Key) → value_at t.seen.read_set q ≡ None → write_among t.seen.writes q ≡ None
@@ -253,7 +253,7 @@ module _ (catalog : List Table) (v : View) (t : TxnAt) (a : Access) (images : Li
   keys_now : (q : Key) → has_found (with_found catalog v fs) q ≡ is_key_read now.read_set q
   keys_now q =
       (all_found catalog v fs q).keys ∙ ap (λ x. x || is_some (value_at fs q)) (h.keys q) ∙ ap (λ o. is_key_read t.seen.read_set q || is_some o) (found q)
-      ∙ either (value_at t.seen.read_set q) (found_new a images q) ∙ sym (ap is_some (noted_now t a images q))
+      ∙ either (value_at t.seen.read_set q) (found_new a images q) ∙ sym (ap is_some (rows_read_now t a images q))
     where
       either : (x y : Option (Option Record)) → (is_some x || is_some y) ≡ is_some (or_else x y)
       either None y = refl

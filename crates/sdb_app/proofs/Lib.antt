@@ -3,7 +3,7 @@ mod Placing
 mod Playable
 mod BenchPlayable
 mod Headline
-mod Playing
+mod Following
 mod Schemas
 mod Sessions
 mod Loads

@@ -73,12 +73,12 @@ free_by (p ∷ ps) ns h =
     (λ t. absurd (h 0 p refl ((bytes_eq-Decides p.ns ns).0 t)))
     (λ t. ap (λ (b : Bool). option_map (λ (x : Place). x.store) (cond b (Some p) (find (λ (x : Place). bytes_eq x.ns ns) ps))) t ∙ free_by ps ns (λ k q e. h (suc k) q e))
 
-taken_at : {A : Type 0} (xs : List A) (i k : ℕ) (x : A) → slice_get (take i xs) k ≡ Some x → (k < i) × (slice_get xs k ≡ Some x)
-taken_at [] zero k x e = absurd (none_some x e)
-taken_at [] (suc i) k x e = absurd (none_some x e)
-taken_at (y ∷ ys) zero k x e = absurd (none_some x e)
-taken_at (y ∷ ys) (suc i) zero x e = (omega arith, e)
-taken_at (y ∷ ys) (suc i) (suc k) x e = let t = taken_at ys i k x e in (let n = t.0 in omega arith, t.1)
+accepted_at : {A : Type 0} (xs : List A) (i k : ℕ) (x : A) → slice_get (take i xs) k ≡ Some x → (k < i) × (slice_get xs k ≡ Some x)
+accepted_at [] zero k x e = absurd (none_some x e)
+accepted_at [] (suc i) k x e = absurd (none_some x e)
+accepted_at (y ∷ ys) zero k x e = absurd (none_some x e)
+accepted_at (y ∷ ys) (suc i) zero x e = (omega arith, e)
+accepted_at (y ∷ ys) (suc i) (suc k) x e = let t = accepted_at ys i k x e in (let n = t.0 in omega arith, t.1)
 
 -- the namespace of a place, among all
 name_at : (places : List Place) (k : ℕ) (p : Place) (d : Name) → slice_get places k ≡ Some p → get_or (map (λ (x : Place). x.ns) places) k d ≡ p.ns
@@ -95,7 +95,7 @@ name_within (q ∷ qs) (suc k) p e = let h = name_within qs k p e in omega arith
 pub free_at : (ps : List Place) (names : List Name) (places : List Place) (i : ℕ) (p : Place) → CanBePlaced names places → ps ≡ take i places → slice_get places i ≡ Some p → route_of p.ns ps ≡ None
 free_at ps names places i p h same here =
     free_by ps p.ns (λ k q e.
-    let t = taken_at places i k q (ap (λ (xs : List Place). slice_get xs k) (sym same) ∙ e) in
+    let t = accepted_at places i k q (ap (λ (xs : List Place). slice_get xs k) (sym same) ∙ e) in
     λ alike. h.once k i p.ns t.0 (name_within places i p here) (name_at places k q p.ns t.1 ∙ alike ∙ sym (name_at places i p p.ns here)))
 
 -- and then it has one

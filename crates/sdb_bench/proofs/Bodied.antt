@@ -12,7 +12,7 @@ use Rattle.sdb_model.specs.Serial.{AreRead}
 use Rattle.sdb_model.specs.Transactions.{Executed, begins, body, client_of, ends, from_begin, id_of, is_done, is_effective, ordinal_of, rest_of, statements_by, statements_since}
 use Rattle.sdb_model.proofs.Public.{id_again}
 use Rattle.sdb_bench.specs.Script.{bench_clients}
-use Rattle.sdb_bench.proofs.Taken.{AreTaken, taken_texts}
+use Rattle.sdb_bench.proofs.AcceptedTexts.{AreTaken, taken_texts}
 use Rattle.sdb_bench.proofs.ReadAs.{IsInsert, IsLater, IsText, IsUpdate, all_kept, insert_kind, later_begins, later_statements, later_texts, setup_kind, setup_texts, update_kind, update_texts}
 use Rattle.law_clients.proofs.Public.{take_all}
 

@@ -1,6 +1,6 @@
 mod Spelled
 mod Drawing
-mod Taken
+mod AcceptedTexts
 mod Even
 mod Evenness
 mod ReadAs

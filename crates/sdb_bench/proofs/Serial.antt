@@ -18,7 +18,7 @@ use Rattle.sdb_bench.proofs.Bodied.{other_body, setup_body, setup_id}
 use Rattle.sdb_bench.proofs.Even.{AreCells, HasNone, IsEven, all_zero, insert_zero, no_entries, none_zero, update_even, update_none}
 use Rattle.sdb_bench.proofs.Evenness.{even_dumps}
 use Rattle.sdb_bench.proofs.ReadAs.{Changes, Closes, Inserts, IsInsert, IsOf, IsUpdate, Opens, Updates}
-use Rattle.sdb_bench.proofs.Taken.{AreTaken, all_taken}
+use Rattle.sdb_bench.proofs.AcceptedTexts.{AreTaken, all_taken}
 use Rattle.law_protocol.proofs.Public.{rest_rising}
 
 ---- one body

@@ -106,12 +106,12 @@ abbrev rows_in : Progress → List Image
 rows_in (progress.Rows rows) = rows
 rows_in g = []
 
-noted_images : (t u : TxnAt) (a : Access) (images : List Record) (rows : List Image) → ImagesEnd t a images (progress.Rows rows) u → IsNoted t u a (step.Images images) rows
-noted_images t u (access.Get key) images rows h = record { images = images; ended = refl; with_read = h.as_read; rows = ap rows_in h.rows; as_read = h.unread }
-noted_images t u (access.Scan span) images rows h = record { images = images; ended = refl; with_read = h.1; rows = h.2; as_read = h.0 }
+read_images : (t u : TxnAt) (a : Access) (images : List Record) (rows : List Image) → ImagesEnd t a images (progress.Rows rows) u → IsNoted t u a (step.Images images) rows
+read_images t u (access.Get key) images rows h = record { images = images; ended = refl; with_read = h.as_read; rows = ap rows_in h.rows; as_read = h.unread }
+read_images t u (access.Scan span) images rows h = record { images = images; ended = refl; with_read = h.1; rows = h.2; as_read = h.0 }
 
 noted_stage : (t u : TxnAt) (a : Access) (x : ReadAt) (after : ReadStage) (s : ReadStep) (rows : List Image) → StepPost t a x after s (progress.Rows rows) u → IsNoted t u a s rows
-noted_stage t u a x after (step.Images images) rows h = noted_images t u a images rows h
+noted_stage t u a x after (step.Images images) rows h = read_images t u a images rows h
 noted_stage t u a x after step.NoMemory rows h = absurd h
 noted_stage t u a x after s rows h = absurd (let e = h.0 in cc)
 
@@ -126,23 +126,23 @@ pub noting_forgotten : (t : TxnAt) (a : Access) (images : List Record) → forgo
 noting_forgotten t (access.Get key) images = get_forgotten t.seen key (slice_get images 0)
 noting_forgotten t (access.Scan span) images = scan_forgotten t.seen span images
 
-pub noting_idle : (t : TxnAt) (a : Access) (images : List Record) → (with_rows_read t a images).doing ≡ doing.Idle
-noting_idle t (access.Get key) images = refl
-noting_idle t (access.Scan span) images = refl
+pub reading_stays_idle : (t : TxnAt) (a : Access) (images : List Record) → (with_rows_read t a images).doing ≡ doing.Idle
+reading_stays_idle t (access.Get key) images = refl
+reading_stays_idle t (access.Scan span) images = refl
 
-pub noting_id : (t : TxnAt) (a : Access) (images : List Record) → (with_rows_read t a images).id ≡ t.id
-noting_id t (access.Get key) images = refl
-noting_id t (access.Scan span) images = refl
+pub reading_keeps_id : (t : TxnAt) (a : Access) (images : List Record) → (with_rows_read t a images).id ≡ t.id
+reading_keeps_id t (access.Get key) images = refl
+reading_keeps_id t (access.Scan span) images = refl
 
 pub noted_idle : (t u : TxnAt) (a : Access) (s : ReadStep) (rows : List Image) → IsNoted t u a s rows → u.doing ≡ doing.Idle
-noted_idle t u a s rows h = ap (λ (v : TxnAt). v.doing) h.with_read ∙ noting_idle t a h.images
+noted_idle t u a s rows h = ap (λ (v : TxnAt). v.doing) h.with_read ∙ reading_stays_idle t a h.images
 
 cut_of : (t v : TxnAt) (s : Seen) → v.id ≡ t.id → v.doing ≡ doing.Idle → s ≡ t.seen → ◌≡◌ {A = TxnAt} (record v { seen = s }) (idle t)
 cut_of t v s a b c = λ i. record { id = a i; seen = c i; doing = b i }
 
 pub cut_is : (t u : TxnAt) (a : Access) (s : ReadStep) (rows : List Image) (m : Mark) → m ≡ mark_of t.seen → IsNoted t u a s rows → cut m u ≡ idle t
 cut_is t u a s rows m e h =
-    cut_of t u (forgotten m u.seen) (ap (λ (v : TxnAt). v.id) h.with_read ∙ noting_id t a h.images) (noted_idle t u a s rows h)
+    cut_of t u (forgotten m u.seen) (ap (λ (v : TxnAt). v.id) h.with_read ∙ reading_keeps_id t a h.images) (noted_idle t u a s rows h)
     (ap (λ (n : Mark). forgotten n u.seen) e ∙ ap (λ (v : TxnAt). forgotten (mark_of t.seen) v.seen) h.with_read ∙ noting_forgotten t a h.images)
 
 pub kept_cut_of : (t u : TxnAt) (a : Access) (s : ReadStep) (rows : List Image) (m : Mark) → m ≡ mark_of t.seen → IsSetInvariant t.seen.read_set t.seen.writes → IsNoted t u a s rows → IsSetInvariant (take m.read_set u.seen.read_set) u.seen.writes
@@ -172,15 +172,15 @@ or_some : (o : Option (Option Record)) (f : Option Record) (b : Bool) → b ≡ 
 or_some None f b h = rw h refl
 or_some (Some x) f b h = refl
 
-pub last_noted : (read_set : List ReadRecord) (k : Key) (f : Option Record) → is_key_read (read_set ++ (k, f) ∷ []) k ≡ true
-last_noted read_set k f = ap is_some (value_last read_set k f k) ∙ or_some (value_at read_set k) f (same_key k k) (same_key_self k)
+pub last_read : (read_set : List ReadRecord) (k : Key) (f : Option Record) → is_key_read (read_set ++ (k, f) ∷ []) k ≡ true
+last_read read_set k f = ap is_some (value_last read_set k f k) ∙ or_some (value_at read_set k) f (same_key k k) (same_key_self k)
 
 -- the key of a get was read then
 pub noting_read : (t u : TxnAt) (a : Access) (s : ReadStep) (rows : List Image) → IsNoted t u a s rows → IsKeyRead u.seen.read_set a
 noting_read t u a s rows h = subst (λ (w : TxnAt). IsKeyRead w.seen.read_set a) (sym h.with_read) (read_now t a h.images)
   where
     read_now : (t : TxnAt) (a : Access) (images : List Record) → IsKeyRead (with_rows_read t a images).seen.read_set a
-    read_now t (access.Get key) images = last_noted t.seen.read_set key (slice_get images 0)
+    read_now t (access.Get key) images = last_read t.seen.read_set key (slice_get images 0)
     read_now t (access.Scan span) images = tt
 
 ---- by what the transaction does

@@ -13,8 +13,8 @@ use Rattle.sdb_client.specs.declared.next.Next.{Next}
 use Rattle.sdb_client.specs.declared.next.Next.TheVariants as next
 use Rattle.sdb_client.specs.Client.{CallPost, ClientAt, OpenTxnPost, StagePost, after, answer_in, gives, given_answer, given_left, with_rows_read, written, next_of}
 use Rattle.sdb_client.specs.Inside.{IsLeft, IsReadOf, IsUnder, OpenNext, plan_after, txn_after, IsCommitPending}
-use Rattle.sdb_client.proofs.Calls.{noting_idle}
-use Rattle.sdb_client.proofs.Taken.{memory_or}
+use Rattle.sdb_client.proofs.Calls.{reading_stays_idle}
+use Rattle.sdb_client.proofs.Takings.{memory_or}
 use Rattle.sdb_client.proofs.Pending.{commit_goes, step_asks}
 use Rattle.sdb_phases.specs.Work.{Work}
 use Rattle.sdb_phases.specs.Commit.{step as commit_step}
@@ -41,7 +41,7 @@ call_stage t u p a x f s is at goes h = absurd (let e = h.0 in cc)
 
 answer_stage : (t u : TxnAt) (p : Planned) (a : Access) (x : ReadAt) (next_stage : ReadStage) (s : ReadStep) (z : Answer) → StagePost t p a x next_stage s (next.Answer z) u → u.doing ≡ doing.Idle
 answer_stage t u p a x f step.More z h = absurd (let e = h.0 in cc)
-answer_stage t u p a x f (step.Images images) z h = ap (λ (v : TxnAt). v.doing) h.2 ∙ given_idle (with_rows_read t a images) (gives p a (with_rows_read t a images)) (noting_idle t a images)
+answer_stage t u p a x f (step.Images images) z h = ap (λ (v : TxnAt). v.doing) h.2 ∙ given_idle (with_rows_read t a images) (gives p a (with_rows_read t a images)) (reading_stays_idle t a images)
 answer_stage t u p a x f step.NoMemory z h = absurd h
 answer_stage t u p a x f s z h = ap (λ (v : TxnAt). v.doing) h.1
 

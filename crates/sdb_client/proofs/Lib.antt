@@ -1,8 +1,8 @@
-mod Fine
+mod WrittenRows
 mod SeenRows
 mod Writable
 mod Calls
-mod Taken
+mod Takings
 mod Left
 mod Pending
 mod Waits

@@ -1,5 +1,5 @@
 -- The lemmas of this crate that others cite.
-pub use Rattle.sdb_client.proofs.Calls.{last_noted, noting_id, noting_idle}
+pub use Rattle.sdb_client.proofs.Calls.{last_read, reading_keeps_id, reading_stays_idle}
 pub use Rattle.sdb_client.proofs.Left.{given_idle}
 pub use Rattle.sdb_client.proofs.Paths.{paths_on, reached_on}
 pub use Rattle.sdb_client.proofs.SeenRows.{none_below}

@@ -26,7 +26,7 @@ use Rattle.sdb_client.specs.declared.next.Next.{Next}
 use Rattle.sdb_client.specs.declared.next.Next.TheVariants as next
 use Rattle.sdb_client.specs.Client.{AskPost, BeginPost, CallPost, ClientAt, CommitNext, CommitStartPost, GatePost, IsAnsweredAtOnce, NextPost, OpenTxnPost, ReplyPost, RollbackPost, RowsPost, RowsReadPost, StagePost, StatementPost, TablePost, Taking, TextPost, TextStep, VacuumStartPost, after, answer_in, answer_of, client_pending, given_answer, gives, is_covered, next_of, out_of_memory, plan_of, resting, vacuum_left, with_rows_read}
 use Rattle.sdb_client.specs.Step.{AnsweredAtOnce, AtOnce, Begins, ByCatalog, CommitEnds, CommitGoesOn, CommitGoesTo, CommitStarts, Fails, HasFaulted, IsBusy, IsCommitAt, IsMalformed, IsOnRows, IsReadAt, IsVacuumAt, LosesCommit, NoMemory, NoStatement, NoTable, NoneOpen, OpenAlready, OthersOpen, OutOfMemory, ReadConflicts, ReadEnds, ReadFails, ReadGoesOn, ReadKnown, ReadStarts, Receives, RollsBack, Step, Takes, VacuumEnds, VacuumGoesOn, VacuumRuns, VacuumStarts, answer_of_outcome}
-use Rattle.sdb_client.proofs.Taken.{memory_or}
+use Rattle.sdb_client.proofs.Takings.{memory_or}
 
 ---- a plan that was asked for its rows isn't answered out of memory
 

@@ -24,7 +24,7 @@ use Rattle.sdb_snapshot.specs.Sets.{IsSetInvariant}
 use Rattle.sdb_snapshot.specs.Seen.{Seen, overlay}
 use Rattle.sdb_snapshot.specs.Written.{AreChanges}
 use Rattle.sdb_client.specs.Inside.{IsValidPlan, IsKeyRead, MayWrite}
-use Rattle.sdb_client.proofs.Fine.{fitting_user, named_ordered, sets_ordered}
+use Rattle.sdb_client.proofs.WrittenRows.{fitting_user, named_ordered, sets_ordered}
 use Rattle.sdb_client.proofs.SeenRows.{IsSeenRow, seen_rows}
 
 -- the columns of a row that a change leaves are in order

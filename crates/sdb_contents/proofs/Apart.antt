@@ -11,7 +11,7 @@ use Rattle.sdb_types.specs.declared.record.Request.TheVariants as ask
 use Rattle.sdb_types.specs.declared.record.State.TheVariants.{Committed}
 use Rattle.sdb_types.specs.Contents.{Contents, after, holds, record_at, rise, starts_after}
 use Rattle.sdb_types.specs.Order.{key_cmp}
-use Rattle.sdb_types.proofs.Public.{and_first, and_second, key_total, same_key_tells}
+use Rattle.sdb_types.proofs.Public.{and_first, and_second, key_total, same_key_decides}
 use Rattle.sdb_catalog.specs.Rows.{metadata_key_of, metadata_table, row_of}
 use Rattle.sdb_catalog.proofs.Public.{key_of_row}
 use Rattle.law_protocol.proofs.Public.{after_put}
@@ -62,7 +62,7 @@ unfolding row_of metadata_key_of
 row_table e = refl
 
 put_elsewhere : (e : Entry) (c : Condition) (m : Contents) (k : Key) → k.table ≢ metadata_table → record_at (after (ask.PutIf (row_of e) c) m) k ≡ record_at m k
-put_elsewhere e c m k far = after_put (row_of e) c m k ∙ elim (same_key_tells k (row_of e).key) [
+put_elsewhere e c m k far = after_put (row_of e) c m k ∙ elim (same_key_decides k (row_of e).key) [
   | inl same ↦ absurd (far (ap (λ (x : Key). x.table) same.1 ∙ row_table e))
   | inr n ↦ ap (λ (b : Bool). cond (holds c (record_at m (row_of e).key) && b) (Some (row_of e)) (record_at m k)) n.0 ∙ none (holds c (record_at m (row_of e).key))
 ]

@@ -26,7 +26,7 @@ use Rattle.sdb_contents.specs.Board.{AreUsable, AreUsableFor, GoOn, HoldTheSame,
 use Rattle.sdb_contents.specs.Opening.{HoldNothing, IsFirstKey, records_of, records_in, run_tables, opening_records, opening_in, first_key, whole}
 use Rattle.sdb_contents.proofs.GoesOn.{fit_for, fit_for_on}
 use Rattle.sdb_contents.proofs.Lists.{all_at}
-use Rattle.sdb_contents.proofs.Shelves.{held_at, named_home}
+use Rattle.sdb_contents.proofs.StoreContents.{held_at, named_home}
 use Rattle.sdb_contents.proofs.RunTables.{names_played, of_played}
 use Rattle.sdb_model.specs.Tables.{is_table_of_run}
 

@@ -10,7 +10,7 @@ use Rattle.sdb_types.specs.declared.record.Request.TheVariants as ask
 use Rattle.sdb_types.specs.Contents.{Contents, after, holds, in_span, record_among, record_at, rise, rows_in, starts_after}
 use Rattle.sdb_types.specs.Order.{key_cmp, same_key, table_cmp}
 use Rattle.sdb_types.specs.Exact.{equal_of}
-use Rattle.sdb_types.proofs.Public.{and_first, and_second, by_test, false_true, key_total, less_of, rows_in-are_rows_of, same_key_exact, same_key_self, same_key_tells, starts_trans, table_exact}
+use Rattle.sdb_types.proofs.Public.{and_first, and_second, by_test, false_true, key_total, less_of, rows_in-are_rows_of, same_key_exact, same_key_self, same_key_decides, starts_trans, table_exact}
 use Rattle.law_protocol.proofs.Public.{after_delete, after_put, row_there}
 use Rattle.sdb_contents.specs.declared.seen.Seen.{Seen}
 use Rattle.sdb_contents.specs.Copying.{IsFree, delete_of, delete_on, put_of, requests_for, requests_of, version_in}
@@ -32,7 +32,7 @@ after_each k (r ∷ rs) up h =
     (h, after_each k rs (and_second (starts_after r.key rs) (rise rs) up) (starts_trans k r.key rs (less_of (key_cmp k r.key) h) (and_first (starts_after r.key rs) (rise rs) up)))
 
 pub apart_key : (a b : Key) → is_lt (key_cmp a b) ≡ true → same_key b a ≡ false
-apart_key a b h = elim (same_key_tells b a) [
+apart_key a b h = elim (same_key_decides b a) [
   | inl e ↦ false_true (sym (ap is_lt (tied_itself key_total a)) ∙ ap (λ (k : Key). is_lt (key_cmp a k)) (sym e.1) ∙ h)
   | inr n ↦ n.0
 ]
@@ -150,7 +150,7 @@ clears m k (x ∷ xs) cur agree kept = by (λ at h. clears m k xs at agree.1 h) 
       | inl gone ↦ inl (ap (λ (v : Option Condition). record_at (after_all (delete_on x.key v ++ flat_map delete_of xs) cur) k) q ∙ gone)
       | inr same ↦ inr (ap (λ (v : Option Condition). record_at (after_all (delete_on x.key v ++ flat_map delete_of xs) cur) k) q ∙ same.0, ((λ _. q), same.1))
     ]
-    by rest (Some c) q = elim (same_key_tells k x.key) [
+    by rest (Some c) q = elim (same_key_decides k x.key) [
       | inl e ↦ inl (ap (λ (v : Option Condition). record_at (after_all (delete_on x.key v ++ flat_map delete_of xs) cur) k) q ∙ gone_stays xs k (after (ask.DeleteIf x.key c) cur) (own c q e.1))
       | inr n ↦ apart rest c q n.0 n.1
     ]
@@ -228,7 +228,7 @@ puts_apart k (r ∷ rs) cur h = puts_apart k rs (after (put_of r) cur) h.1 ∙ p
 outside : (t : TableName) (k : Key) (xs : List Record) → list_all (λ r. in_span (span_of t) r.key) xs ≡ true → in_span (span_of t) k ≡ false → AllByRecursion (λ x. same_key k x.key ≡ false) xs
 outside t k [] h out = tt
 outside t k (x ∷ xs) h out = (
-  elim (same_key_tells k x.key) [
+  elim (same_key_decides k x.key) [
     | inl e ↦ false_true (sym out ∙ ap (in_span (span_of t)) e.1 ∙ and_first (in_span (span_of t) x.key) (list_all (λ r. in_span (span_of t) r.key) xs) h)
     | inr n ↦ n.0
   ],

@@ -1,5 +1,5 @@
 mod Lists
-mod Shelves
+mod StoreContents
 mod Made
 mod GoesOn
 mod RunTables

@@ -15,7 +15,7 @@ use Rattle.sdb_model.specs.declared.event.How.TheVariants.{Seen, Lost, Discarded
 use Rattle.sdb_model.specs.Rows.{Name}
 use Rattle.sdb_model.specs.Events.{IsPerformed, contents_under, with_contents, store_of, table_asked}
 use Rattle.sdb_contents.specs.Board.{AreUsableFor, HoldTheSame, IsCalled, IsDelivered, IsMade, IsOneCall, KnownAreUnchanged, how_lost, how_seen, reply_lost, contents_of_views}
-use Rattle.sdb_contents.proofs.Shelves.{held_at, set_there, set_still, named_home}
+use Rattle.sdb_contents.proofs.StoreContents.{held_at, set_there, set_still, named_home}
 use Rattle.sdb_types.proofs.Public.{some_is}
 use Rattle.sdb_model.specs.Calls.{is_read}
 

@@ -10,4 +10,4 @@ pub use Rattle.sdb_contents.proofs.Lists.{take_suc}
 pub use Rattle.sdb_contents.proofs.Made.{asked, discarded, lost, once_lost, once_seen, unasked}
 pub use Rattle.sdb_contents.proofs.Making.{all_less}
 pub use Rattle.sdb_contents.proofs.Refusals.{passed, refused_as}
-pub use Rattle.sdb_contents.proofs.Shelves.{named_home}
+pub use Rattle.sdb_contents.proofs.StoreContents.{named_home}

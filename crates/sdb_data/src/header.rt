@@ -219,7 +219,7 @@ fn place_of(header: &[Txt], name: &str) -> Option<usize>
     header.iter().position(|other| is_text(other, name))
 }
 
-fn taken_at(header: &[Txt], column: &Column) -> Option<ColumnTaken>
+fn accepted_at(header: &[Txt], column: &Column) -> Option<ColumnTaken>
     ensures { result ≡ spec.column_taken header.now column.now }
 {
     match place_of(header, column.name.as_str()) {
@@ -241,7 +241,7 @@ pub fn columns_taken(
 {
     let mut accepted = Seq::new(alloc);
     for column in columns {
-        if let Some(found) = taken_at(header, column) {
+        if let Some(found) = accepted_at(header, column) {
             accepted.push(found)?;
         }
     }

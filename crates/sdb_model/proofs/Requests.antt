@@ -11,7 +11,7 @@ use Rattle.sdb_model.specs.declared.event.Event.{Event}
 use Rattle.sdb_model.specs.declared.event.Event.TheVariants as event
 use Rattle.sdb_model.specs.Calls.{put_by}
 use Rattle.sdb_model.specs.Events.{Contact, contact_of, table_asked}
-use Rattle.sdb_model.specs.Requests.{any_of, records_put, shown_by}
+use Rattle.sdb_model.specs.Requests.{any_of, records_put, observed_in}
 use Rattle.sdb_model.specs.Transactions.{is_prepared_record}
 
 ---- one of a list
@@ -72,22 +72,22 @@ PreparesAt id key q = any_of (λ r. is_prepared_record id r && same_key r.key ke
 prepared_at : (id : TxId) (key : Key) (r : Record) → (is_prepared_record id r && same_key r.key key) ≡ true → r.key ≡ key
 prepared_at id key r h = same_key_exact r.key key (and_second (is_prepared_record id r) (same_key r.key key) h)
 
-pub unmet_shown : (id : TxId) (key : Key) (found : Option Record) (q : Request) (r : Reply) → PreparesAt id key q → r ≡ reply.NotMet found → Contains (shown_by q r) (key, found)
-unmet_shown id key found (ask.Get k) r p e = clash (sym p)
-unmet_shown id key found (ask.Scan span) r p e = clash (sym p)
-unmet_shown id key found (ask.PutIf x condition) r p e = subst (λ (y : Reply). Contains (shown_by (ask.PutIf x condition) y) (key, found)) (sym e) (in_only (x.key, found) (key, found) (ap (λ (k : Key). (k, found)) (prepared_at id key x p)))
-unmet_shown id key found (ask.DeleteIf k condition) r p e = clash (sym p)
+pub unmet_observed : (id : TxId) (key : Key) (found : Option Record) (q : Request) (r : Reply) → PreparesAt id key q → r ≡ reply.NotMet found → Contains (observed_in q r) (key, found)
+unmet_observed id key found (ask.Get k) r p e = clash (sym p)
+unmet_observed id key found (ask.Scan span) r p e = clash (sym p)
+unmet_observed id key found (ask.PutIf x condition) r p e = subst (λ (y : Reply). Contains (observed_in (ask.PutIf x condition) y) (key, found)) (sym e) (in_only (x.key, found) (key, found) (ap (λ (k : Key). (k, found)) (prepared_at id key x p)))
+unmet_observed id key found (ask.DeleteIf k condition) r p e = clash (sym p)
 
-pub shown_unmet : (id : TxId) (key : Key) (found : Option Record) (q : Request) (r : Reply) → PreparesAt id key q → Contains (shown_by q r) (key, found) → r ≡ reply.NotMet found
-shown_unmet id key found (ask.Get k) r p h = clash (sym p)
-shown_unmet id key found (ask.Scan span) r p h = clash (sym p)
-shown_unmet id key found (ask.PutIf x condition) (reply.NotMet at) p h = ap (λ (s : Key × Option Record). reply.NotMet s.1) (only_in (x.key, at) (key, found) h)
-shown_unmet id key found (ask.PutIf x condition) (reply.Found at) p h = nothing_in (key, found) h
-shown_unmet id key found (ask.PutIf x condition) (reply.Rows rows) p h = nothing_in (key, found) h
-shown_unmet id key found (ask.PutIf x condition) reply.Applied p h = nothing_in (key, found) h
-shown_unmet id key found (ask.PutIf x condition) reply.Fault p h = nothing_in (key, found) h
-shown_unmet id key found (ask.PutIf x condition) reply.NoMemory p h = nothing_in (key, found) h
-shown_unmet id key found (ask.DeleteIf k condition) r p h = clash (sym p)
+pub observed_unmet : (id : TxId) (key : Key) (found : Option Record) (q : Request) (r : Reply) → PreparesAt id key q → Contains (observed_in q r) (key, found) → r ≡ reply.NotMet found
+observed_unmet id key found (ask.Get k) r p h = clash (sym p)
+observed_unmet id key found (ask.Scan span) r p h = clash (sym p)
+observed_unmet id key found (ask.PutIf x condition) (reply.NotMet at) p h = ap (λ (s : Key × Option Record). reply.NotMet s.1) (only_in (x.key, at) (key, found) h)
+observed_unmet id key found (ask.PutIf x condition) (reply.Found at) p h = nothing_in (key, found) h
+observed_unmet id key found (ask.PutIf x condition) (reply.Rows rows) p h = nothing_in (key, found) h
+observed_unmet id key found (ask.PutIf x condition) reply.Applied p h = nothing_in (key, found) h
+observed_unmet id key found (ask.PutIf x condition) reply.Fault p h = nothing_in (key, found) h
+observed_unmet id key found (ask.PutIf x condition) reply.NoMemory p h = nothing_in (key, found) h
+observed_unmet id key found (ask.DeleteIf k condition) r p h = clash (sym p)
 
 ---- contacts
 

@@ -15,7 +15,7 @@ use Rattle.sdb_record.specs.Coordinator.{coordinator_key_of, decision_in}
 use Rattle.sdb_model.specs.declared.event.Event.{Event}
 use Rattle.sdb_model.specs.declared.event.Event.TheVariants as event
 use Rattle.sdb_model.specs.declared.event.How.{How}
-use Rattle.sdb_model.specs.Requests.{keys_asked, only_of, records_put, shown_by}
+use Rattle.sdb_model.specs.Requests.{keys_asked, only_of, records_put, observed_in}
 use Rattle.sdb_model.specs.Rows.{Name}
 use Rattle.sdb_model.specs.Transactions.{Executed, numbered}
 use Rattle.sdb_record.specs.Parts.{are_stored}
@@ -104,7 +104,7 @@ records_observed r = records_read r
 
 -- what a reply says is at the one key that its request names
 abbrev pub record_at_key : Request → Reply → Option (Option Record)
-record_at_key q r = option_map (λ s. s.1) (only_of (shown_by q r))
+record_at_key q r = option_map (λ s. s.1) (only_of (observed_in q r))
 
 -- the row that a reply says is at that key, or that was put there
 abbrev pub row_observed : Request → Reply → Option Record

@@ -31,7 +31,7 @@ use Rattle.sdb_model.specs.Refused.{refusal_of}
 use Rattle.sdb_model.specs.Follows.{has_stopped}
 use Rattle.sdb_model.specs.Transactions.{Executed, statements_by, begins, ends, body, client_of, commit_of, statements_of, is_prepared_record, statements_inside}
 use Rattle.sdb_model.specs.Calls.{StoreCall, calls_of, calls_after, calls_before, clock_at, decision_found, decision_learned, is_of_row, is_read, is_removal, put_by, records_read, records_observed}
-use Rattle.sdb_model.specs.Requests.{any_of, records_put, shown_by}
+use Rattle.sdb_model.specs.Requests.{any_of, records_put, observed_in}
 use Rattle.sdb_model.specs.ReadSet.{ReadItem, SpanRead, read_set_of, reads_rows, version_read, meaning_of, has_read}
 use Rattle.sdb_types.specs.Replies.{is_applied, is_fault}
 use Rattle.sdb_types.specs.Order.{same_key}
@@ -149,7 +149,7 @@ prepares_key id key m = any_of (λ r. is_prepared_record id r && same_key r.key 
 
 -- A prepare of the key was not met, and this was found there.
 abbrev pub IsUnmet : List StoreCall → TxId → Key → Option Record → Type 0
-IsUnmet calls id key found = (m : StoreCall) × Contains calls m × (prepares_key id key m ≡ true) × Contains (shown_by m.request m.reply) (key, found)
+IsUnmet calls id key found = (m : StoreCall) × Contains calls m × (prepares_key id key m ≡ true) × Contains (observed_in m.request m.reply) (key, found)
 
 -- A check observed this at a key that was not prepared.
 abbrev pub IsChecked : List StoreCall → TxId → Key → Option Record → Type 0

@@ -155,7 +155,7 @@ ReadsCurrent catalog places events opening moments = (id : TxId) (item : ReadIte
 pub record ContentsExplained (catalog : List Table) (places : List Place) (events : List Event) (opening : List StoreContents) (moments : List (List StoreContents)) : Type 0 where
   pub committed_recorded : (n : ℕ) → n ≤ length moments → CommittedRecorded catalog places (moment opening moments n)
   pub unresolved_prepared : (n : ℕ) → n ≤ length moments → UnresolvedPrepared catalog places events opening moments n
-  pub prepared_stands : (n : ℕ) → n ≤ length moments → PreparedPersists catalog places events opening moments n
+  pub prepared_stay : (n : ℕ) → n ≤ length moments → PreparedPersists catalog places events opening moments n
   pub writes_stand : WritesPersist catalog places events opening moments
   pub aborted_gone : (n : ℕ) → n ≤ length moments → AbortedRemoved catalog places (moment opening moments n)
   pub rows_final : (early late : ℕ) → early ≤ late → late ≤ length moments → RowsFinal places (moment opening moments early) (moment opening moments late)

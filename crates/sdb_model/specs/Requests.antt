@@ -28,11 +28,11 @@ puts_in (ask.PutIf r condition) = (r, condition) ∷ []
 puts_in (ask.DeleteIf key condition) = []
 
 -- What a reply shows at the keys that its request names: the record that was found there, or none. A scan names no key.
-abbrev pub shown_by : Request → Reply → List (Key × Option Record)
-shown_by (ask.Get key) (reply.Found found) = (key, found) ∷ []
-shown_by (ask.PutIf r condition) (reply.NotMet found) = (r.key, found) ∷ []
-shown_by (ask.DeleteIf key condition) (reply.NotMet found) = (key, found) ∷ []
-shown_by q r = []
+abbrev pub observed_in : Request → Reply → List (Key × Option Record)
+observed_in (ask.Get key) (reply.Found found) = (key, found) ∷ []
+observed_in (ask.PutIf r condition) (reply.NotMet found) = (r.key, found) ∷ []
+observed_in (ask.DeleteIf key condition) (reply.NotMet found) = (key, found) ∷ []
+observed_in q r = []
 
 ---- by these two
 

@@ -140,7 +140,7 @@ pub rows_from : (span : Span) (es : List (Key × List Pair)) → rows_among span
 rows_from span es = ap (map record_of) (nested (λ (e : Key × List Pair). in_span span e.0) (λ e. is_from span e.0) (λ e h. and_both (is_le (key_cmp (span_start span) e.0)) true (from_start span e.0 h) refl) es)
 
 -- Entries in order, all from the least key of a span on.
-pub record StandsFrom {X : Type 0} (span : Span) (es : List (Key × X)) : Type 0 where
+pub record LiesFrom {X : Type 0} (span : Span) (es : List (Key × X)) : Type 0 where
   pub sorted : T (is_sorted key_cmp es)
   pub from : AllByRecursion (λ e. is_from span e.0 ≡ true) es
 
@@ -161,11 +161,11 @@ unfolding IsStrictlySortedBy
 in_order [] h = tt
 in_order (e ∷ es) h = both_t _ _ (below e.0 es h.0) (in_order es h.1)
 
-pub stands_from : {X : Type 0} (span : Span) (es : List (Key × X)) → IsStrictlySortedBy key_cmp (keys_of es) → StandsFrom span (filter (λ e. is_from span e.0) es)
-stands_from span es h = record { sorted = is_sorted-where_key key_cmp (is_from span) es (in_order es h); from = kept_all (λ e. is_from span e.0) es }
+pub lies_from : {X : Type 0} (span : Span) (es : List (Key × X)) → IsStrictlySortedBy key_cmp (keys_of es) → LiesFrom span (filter (λ e. is_from span e.0) es)
+lies_from span es h = record { sorted = is_sorted-where_key key_cmp (is_from span) es (in_order es h); from = kept_all (λ e. is_from span e.0) es }
 
-pub stands_later : {X : Type 0} (span : Span) (e : Key × X) (es : List (Key × X)) → StandsFrom span (e ∷ es) → StandsFrom span es
-stands_later span e es h = record { sorted = second_t _ _ h.sorted; from = h.from.1 }
+pub lies_later : {X : Type 0} (span : Span) (e : Key × X) (es : List (Key × X)) → LiesFrom span (e ∷ es) → LiesFrom span es
+lies_later span e es h = record { sorted = second_t _ _ h.sorted; from = h.from.1 }
 
 is_less : (r : Ordering) → T (is_lt r) → r ≡ Less
 is_less Less h = refl
@@ -186,7 +186,7 @@ none_above span a (e ∷ es) low out h =
     ∙ none_above span a es low out (second_t (is_lt (key_cmp a e.0)) (below_all key_cmp a es) h)
 
 -- after the first key outside, there are no more keys of the span
-pub past_end : {X : Type 0} (span : Span) (e : Key × X) (es : List (Key × X)) → StandsFrom span (e ∷ es) → in_span span e.0 ≡ false → filter (λ x. in_span span x.0) (e ∷ es) ≡ []
+pub past_end : {X : Type 0} (span : Span) (e : Key × X) (es : List (Key × X)) → LiesFrom span (e ∷ es) → in_span span e.0 ≡ false → filter (λ x. in_span span x.0) (e ∷ es) ≡ []
 past_end span e es h out =
     ap (λ b. cond b (e ∷ filter (λ x. in_span span x.0) es) (filter (λ x. in_span span x.0) es)) out
     ∙ none_above span e.0 es (and_first (is_le (key_cmp (span_start span) e.0)) true h.from.0) out (first_t (below_all key_cmp e.0 es) (is_sorted key_cmp es) h.sorted)
@@ -207,7 +207,7 @@ pub all_found : (span : Span) (found all : List Record) (left : List (Key × Lis
 all_found span found all left none answered = sym (append-nil found) ∙ ap (λ es. found ++ rows_among span es) (sym none) ∙ answered
 
 -- and where the next one is outside
-pub all_passed : (span : Span) (found all : List Record) (left : List (Key × List Pair)) (e : Key × List Pair) (es : List (Key × List Pair)) → left ≡ e ∷ es → StandsFrom span left → in_span span e.0 ≡ false → found ++ rows_among span left ≡ all → found ≡ all
+pub all_passed : (span : Span) (found all : List Record) (left : List (Key × List Pair)) (e : Key × List Pair) (es : List (Key × List Pair)) → left ≡ e ∷ es → LiesFrom span left → in_span span e.0 ≡ false → found ++ rows_among span left ≡ all → found ≡ all
 all_passed span found all left e es next agrees out answered =
     sym (append-nil found)
-    ∙ ap (λ rs. found ++ rs) (sym (ap (rows_among span) next ∙ ap (map record_of) (past_end span e es (subst (StandsFrom span) next agrees) out))) ∙ answered
+    ∙ ap (λ rs. found ++ rs) (sym (ap (rows_among span) next ∙ ap (map record_of) (past_end span e es (subst (LiesFrom span) next agrees) out))) ∙ answered

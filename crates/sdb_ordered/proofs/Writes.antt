@@ -24,8 +24,8 @@ abbrev pub stored_at : Key → Option (List Pair) → Option Record
 stored_at key = option_map (λ columns. record_of (key, columns))
 
 -- what a search of the entries finds is what the map has
-pub stands_at : (es : List (Key × List Pair)) (m : Contents) (key : Key) (found : Option (List Pair)) → from_entries es ≡ m → found ≡ lookup (is_at (key_cmp key)) es → found ≡ get m key
-stands_at es m key found view h = h ∙ sym (get_entries key_total es key) ∙ ap (λ m. get m key) view
+pub lies_at : (es : List (Key × List Pair)) (m : Contents) (key : Key) (found : Option (List Pair)) → from_entries es ≡ m → found ≡ lookup (is_at (key_cmp key)) es → found ≡ get m key
+lies_at es m key found view h = h ∙ sym (get_entries key_total es key) ∙ ap (λ m. get m key) view
 
 -- what entries that differ at one key leave
 pub written : (es fs : List (Key × List Pair)) (m : Contents) (k key : Key) (v columns : List Pair) → from_entries es ≡ m → k ≡ key → v ≡ columns → ((q : Key) → lookup (is_at (key_cmp q)) fs ≡ cond (is_at (key_cmp k) q) (Some v) (lookup (is_at (key_cmp q)) es)) → from_entries fs ≡ insert m key columns

@@ -1,8 +1,8 @@
 mod RecoverRows
 mod DecideRows
-mod Stands
+mod CommitInvariants
 mod Derived
-mod RecoverStands
+mod RecoverInvariants
 mod RecoverAnswers
 mod Starved
 mod DecidingPut

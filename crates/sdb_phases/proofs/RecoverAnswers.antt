@@ -17,8 +17,8 @@ use Rattle.sdb_phases.specs.CommitLaws.{is_malformed, holds_malformed}
 use Rattle.sdb_phases.specs.Recover.{Received, AreRecoverReplies, recover_after, recover_answer, recover_request_at, recover_next, row_followed}
 use Rattle.sdb_phases.specs.RecoverLaws.{RecoverInvariant, RecoverEnds, WasRolled, RollsTo, found_pending, received_fault, received_malformed}
 use Rattle.sdb_phases.proofs.RecoverRows.{by_row, by_rows}
-use Rattle.sdb_phases.proofs.Stands.{row_malformed}
-use Rattle.sdb_phases.proofs.RecoverStands.{recover_stands}
+use Rattle.sdb_phases.proofs.CommitInvariants.{row_malformed}
+use Rattle.sdb_phases.proofs.RecoverInvariants.{recover_invariant}
 
 -- a row that was found is followed, or isn't well formed
 row_ends : (rec : Record) (meta : Meta) (past : List Received) (c : Received) (row : Record) → row.key ≡ coordinator_key_of meta.id → holds_malformed meta.id c.reply ≡ is_malformed meta.id row → RecoverEnds rec meta (c ∷ past) (row_followed meta row).1
@@ -60,7 +60,7 @@ ends rec meta past n =
 recover_so : (rec : Record) (meta : Meta) (past : List Received) → meta.id.0 < 2 ^ 128 → AreRecoverReplies rec meta past → RecoverEnds rec meta past (recover_answer rec meta past)
 recover_so rec meta [] small correct = tt
 recover_so rec meta (c ∷ past) small (correct, gets, moment) =
-    ends rec meta past c.now (recover_after rec meta past) c.reply refl (recover_stands rec meta past small correct) gets
+    ends rec meta past c.now (recover_after rec meta past) c.reply refl (recover_invariant rec meta past small correct) gets
 
 answers_at : (rec : Record) (meta : Meta) (past : List Received) (a : RecoverStep) → meta.id.0 < 2 ^ 128 → AreRecoverReplies rec meta past → recover_answer rec meta past ≡ a → RecoverEnds rec meta past a
 answers_at rec meta past a small correct e = subst (RecoverEnds rec meta past) e (recover_so rec meta past small correct)

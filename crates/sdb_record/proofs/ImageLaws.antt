@@ -28,11 +28,11 @@ use Rattle.sdb_record.specs.Meta.{checked, id_in, id_in_value, is_in, is_transac
 use Rattle.sdb_record.specs.Coordinator.{coordinator_key_of, coordinator_row_of, id_of_key, decision_in, decision_in_value, decision_number}
 use Rattle.sdb_record.specs.Rolls.{prepared_record, forward_record, forward_columns, back_of, back_to, image_of, image_under, row_of_image, row_of_change, new_columns, state_of_change, next_version, base_columns, IsWrite}
 use Rattle.sdb_record.proofs.IdLemmas.{id_of_text-id_text, id_of_text-is}
-use Rattle.sdb_record.proofs.Fine.{accepted, has_value-is, refuse-ok, need-some}
+use Rattle.sdb_record.proofs.Checked.{accepted, has_value-is, refuse-ok, need-some}
 use Rattle.sdb_record.proofs.States.{state_value, is_in-says, says-committed}
 use Rattle.sdb_record.proofs.RollLaws.{has_int, forward-id, forward-in, forward-tombstone, forward-user, forward-accepted, forward-committed, forward-key, before-kept, mark_value}
 use Rattle.sdb_record.proofs.WriteLaws.{marked-id, marked-state, marked-other, marked-user, with_base, row-kept, fitting, no-column}
-use Rattle.sdb_record.proofs.TakenLaws.{prepared-columns, prepared-key, prepared-base, left-accepted, other-meta, absent-column, time-fits as moment-of}
+use Rattle.sdb_record.proofs.PreparedRecords.{prepared-columns, prepared-key, prepared-base, left-accepted, other-meta, absent-column, time-fits as moment-of}
 
 ---- what a transaction left
 

@@ -2,12 +2,12 @@ mod NameLemmas
 mod Within
 mod IdLemmas
 mod ColumnLaws
-mod Fine
+mod Checked
 mod PreparedLaws
 mod Settings
 mod States
 mod RollLaws
 mod WriteLaws
-mod TakenLaws
+mod PreparedRecords
 mod ImageLaws
 pub mod Public

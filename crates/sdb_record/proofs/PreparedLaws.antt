@@ -9,7 +9,7 @@ use Rattle.sdb_record.specs.declared.write.Write.{Write}
 use Rattle.sdb_record.specs.Names.{tx_version}
 use Rattle.sdb_record.specs.Parts.{with_columns, before_pair, are_short, are_user_columns}
 use Rattle.sdb_record.specs.Rolls.{prepared_record, base_columns, new_columns, next_version_of, state_of_change, writer_columns, age_columns, IsBaseOf, is_change}
-use Rattle.sdb_record.proofs.Fine.{accepted-short}
+use Rattle.sdb_record.proofs.Checked.{accepted-short}
 
 pub base-short : (key : Key) (base : Option Record) → IfSome base (IsBaseOf key) → are_short (base_columns base) ≡ true
 base-short key None h = refl

@@ -19,7 +19,7 @@ use Rattle.sdb_record.specs.Names.{tx_version, tx_prepared_at, tx_committed_at, 
 use Rattle.sdb_record.specs.Parts.{with_columns, own_columns, user_columns, is_before_pair, is_user_pair, are_stored, before_part, before_record, record_with}
 use Rattle.sdb_record.specs.Meta.{id_in, id_in_value, state_in_value, version_in_value, moment_in_value, is_moment, is_in, is_committed, is_deleted, is_stray, any_state, checked, checked_before, is_transactional, is_unresolved, present, tombstone_in_value, refuse, is_misnamed, with_before, checked_part, have_identifiers}
 use Rattle.sdb_record.specs.Rolls.{forward_columns, forward_record, tombstone_mark}
-use Rattle.sdb_record.proofs.Fine.{Says, Fine, accepted, ok-of, checked-valid, none-first, none-rest, accepted-keep, keeps_here, valid, valid-any, refuse-ok}
+use Rattle.sdb_record.proofs.Checked.{Says, Fine, accepted, ok-of, checked-valid, none-first, none-rest, accepted-keep, keeps_here, valid, valid-any, refuse-ok}
 use Rattle.sdb_record.proofs.States.{is_in-says, says-committed, says-deleted, no-tombstone, state_value}
 use Rattle.sdb_record.proofs.ColumnLaws.{not_before, are_columns-filter, are_columns-before_part}
 use Rattle.sdb_record.proofs.Settings.{column-put-same, column-put-other, none-put, none-filter, all-put, all-filter, filter-put, column-filter}

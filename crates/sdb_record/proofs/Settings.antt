@@ -11,7 +11,7 @@ use Rattle.sdb_record.specs.Names.{same_name, base_name}
 use Rattle.sdb_record.specs.Parts.{with_columns, before_pair, base_pair, before_part}
 use Rattle.sdb_record.proofs.NameLemmas.{same_name-itself, same_name-true, base_name-before_name}
 use Rattle.sdb_record.proofs.Within.{chosen}
-use Rattle.sdb_record.proofs.Fine.{none-first, none-rest, none-make}
+use Rattle.sdb_record.proofs.Checked.{none-first, none-rest, none-make}
 use Rattle.sdb_record.proofs.ColumnLaws.{stays, leaves, not_before}
 use Rattle.std.proofs.lemmas.Bool.{not-true}
 

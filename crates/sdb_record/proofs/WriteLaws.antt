@@ -17,7 +17,7 @@ use Rattle.sdb_record.specs.Rolls.{base_columns, new_columns, IsBaseOf, IsWrite}
 use Rattle.sdb_record.proofs.PreparedLaws.{change-user, change-columns}
 use Rattle.sdb_record.proofs.ColumnLaws.{stays, leaves, not_before, with_columns-apart, with_columns-none, are_columns-kept, leaves-kept, stays-user, is_before-kept, columns-full, columns-rest}
 use Rattle.sdb_record.proofs.Settings.{column-put-same, column-put-other, none-with_columns, misses, filter-with_columns, filter-all, before_part-with_columns, before_part-kept, other_name}
-use Rattle.sdb_record.proofs.Fine.{none-make}
+use Rattle.sdb_record.proofs.Checked.{none-make}
 
 ---- the parts that make it
 

@@ -3,10 +3,10 @@ mod Cuts
 mod Readers
 mod Forms
 mod PartLaws
-mod Told
+mod Answered
 mod Stops
 mod StopLaws
-mod Shown
+mod RisingTables
 mod WordLaws
 mod NumberLaws
 mod Lists

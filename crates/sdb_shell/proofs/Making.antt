@@ -12,7 +12,7 @@ use Rattle.sdb_contents.proofs.Public.{fit_for, refused_after}
 use Rattle.sdb_client.specs.Client.{ClientAt, IsIdle, ParsedPost, Parses, Taking, TextPost, out_of_memory}
 use Rattle.law_clients.specs.About.{IsOfTables}
 use Rattle.sdb_client.proofs.Public.{step_of_reply, step_of_text}
-use Rattle.law_clients.proofs.Public.{asks_in, by_memory, called, faults_replied, faults_taken, own_at, replies, replies_in, replies_lead, starves, takes, takes_in, takings_lead, text_is_read}
+use Rattle.law_clients.proofs.Public.{asks_in, by_memory, called, faults_replied, faults_at_takes, own_at, replies, replies_in, replies_lead, starves, takes, takes_in, takings_lead, text_is_read}
 use Rattle.law_clients.specs.Database.{Called, database_of}
 use Rattle.law_clients.specs.Between.{Answers, LeadsTo, More, StatementEnds, Waits}
 use Rattle.law_clients.specs.Chain.{Exchanged, Answers as Was}
@@ -115,7 +115,7 @@ module _ (q : Taking) (vacuums : q.gate.vacuum_runs ≡ false) (opens : q.gate.o
 
   no_fault : (says : Result Statement Refusal) → Parses text says → (result ≢ Some answer.NoMemory → ParsedPost q says c result d) → IsOfFault result d → ⊥
   unfolding taken_by
-  no_fault says reads took come = faults_taken (taken_by says reads took) come
+  no_fault says reads took come = faults_at_takes (taken_by says reads took) come
 
   -- it is answered at once
   clean_at_once : (a : Answer) → result ≡ Some a → (says : Result Statement Refusal) → Parses text says → (result ≢ Some answer.NoMemory → ParsedPost q says c result d) → is_of_fault a ≡ true → (stores : Attached) → HaveRisen stores.views stores.views

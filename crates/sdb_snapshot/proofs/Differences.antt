@@ -42,10 +42,10 @@ found_first : (b : Bool) (r : Record) (o : Option Record) → or_else (cond b (S
 found_first true r o = refl
 found_first false r o = refl
 
-pub noted_images : (read_set : List ReadRecord) (rs : List Record) (q : Key) → value_at (with_images read_set rs) q ≡ or_else (value_at read_set q) (option_map Some (record_among rs q))
-noted_images read_set [] q = sym (or_none (value_at read_set q))
-noted_images read_set (r ∷ rs) q =
-    noted_images (with_read_record read_set r.key (Some r)) rs q
+pub read_images : (read_set : List ReadRecord) (rs : List Record) (q : Key) → value_at (with_images read_set rs) q ≡ or_else (value_at read_set q) (option_map Some (record_among rs q))
+read_images read_set [] q = sym (or_none (value_at read_set q))
+read_images read_set (r ∷ rs) q =
+    read_images (with_read_record read_set r.key (Some r)) rs q
     ∙ ap (λ o. or_else o (option_map Some (record_among rs q))) (note_step read_set r.key (Some r) q)
     ∙ or_or (value_at read_set q) (cond (same_key q r.key) (Some (Some r)) None) (option_map Some (record_among rs q))
     ∙ ap (or_else (value_at read_set q)) (found_first (same_key q r.key) r (record_among rs q))
@@ -56,13 +56,13 @@ joined (Some r) = refl
 
 -- the records of a scan, noted alone
 pub base_images : (rs : List Record) (q : Key) → base_at (with_images [] rs) q ≡ record_among rs q
-base_images rs q = ap (option_and_then (λ x. x)) (noted_images [] rs q) ∙ joined (record_among rs q)
+base_images rs q = ap (option_and_then (λ x. x)) (read_images [] rs q) ∙ joined (record_among rs q)
 
 pub stands_is : (now : List ReadRecord) (rs : List Record) (q : Key) → now ≡ with_images [] rs → base_at now q ≡ record_among rs q
 stands_is now rs q is = ap (λ (ns : List ReadRecord). base_at ns q) is ∙ base_images rs q
 
 pub still_noted : (read_set : List ReadRecord) (rs : List Record) (q : Key) → is_key_read read_set q ≡ true → is_key_read (with_images read_set rs) q ≡ true
-still_noted read_set rs q h = ap is_some (noted_images read_set rs q) ∙ ap is_some (or_there (value_at read_set q) (option_map Some (record_among rs q)) h) ∙ h
+still_noted read_set rs q h = ap is_some (read_images read_set rs q) ∙ ap is_some (or_there (value_at read_set q) (option_map Some (record_among rs q)) h) ∙ h
 
 pub noted_last_keeps : (read_set : List ReadRecord) (k : Key) (f : Option Record) (q : Key) → is_key_read read_set q ≡ true → is_key_read (read_set ++ (k, f) ∷ []) q ≡ true
 noted_last_keeps read_set k f q h = ap is_some (value_last read_set k f q) ∙ ap is_some (or_there (value_at read_set q) (cond (same_key q k) (Some f) None) h) ∙ h

@@ -5,7 +5,7 @@ mod Places
 mod Scans
 mod SpanPlaces
 mod Opening
-mod Shown
+mod SeenRows
 mod Differences
 mod Owned
 mod Forgotten

@@ -10,7 +10,7 @@ use Rattle.sdb_snapshot.specs.Reads.{ReadRecord, is_key_read, base_at, with_imag
 use Rattle.sdb_snapshot.specs.Written.{AreChanges, HaveBases, HaveKeysOnce, with_write, with_writes, with_change_of, write_of}
 use Rattle.sdb_snapshot.specs.Sets.{IsSetInvariant}
 use Rattle.sdb_snapshot.proofs.Keys.{value_last}
-use Rattle.sdb_snapshot.proofs.Differences.{or_there, noted_images, noted_last_keeps, still_noted, bases_last, bases_images, writes_fine, writes_read}
+use Rattle.sdb_snapshot.proofs.Differences.{or_there, read_images, noted_last_keeps, still_noted, bases_last, bases_images, writes_fine, writes_read}
 use Rattle.sdb_types.proofs.Public.{by_test, same_key_exact, same_key_self}
 use Rattle.sdb_types.specs.Order.{same_key}
 
@@ -24,7 +24,7 @@ keeps_last : (read_set : List ReadRecord) (k : Key) (f : Option Record) → Keep
 keeps_last read_set k f q h = value_last read_set k f q ∙ or_there (value_at read_set q) (cond (same_key q k) (Some f) None) h
 
 keeps_images : (read_set : List ReadRecord) (rs : List Record) → Keeps read_set (with_images read_set rs)
-keeps_images read_set rs q h = noted_images read_set rs q ∙ or_there (value_at read_set q) _ h
+keeps_images read_set rs q h = read_images read_set rs q ∙ or_there (value_at read_set q) _ h
 
 based_later : (read_set later : List ReadRecord) (ws : List Write) → Keeps read_set later → HaveBases read_set ws → HaveBases later ws
 based_later read_set later [] keep h = tt

@@ -56,12 +56,12 @@ texts_test k a = true_of _ ∙ ap is_eq (value_cmp-Text a k) ∙ is_eq-slice_cmp
 ---- what is shown
 
 -- what a query shows of a row
-abbrev pub shown_by : List Term → List Term → Row → Row → Row
-shown_by terms shown params row = (output (selected terms shown) (params ∷ row ∷ [])).1
+abbrev pub observed_in : List Term → List Term → Row → Row → Row
+observed_in terms shown params row = (output (selected terms shown) (params ∷ row ∷ [])).1
 
 -- The rows of an answer are what is shown of the rows that pass, in any order.
 pub answered : (db : Trees) (terms shown : List Term) (params : Row) (rows : List Row) → IsProgramAnswer [] (selected terms shown) db params rows
-    → IsPermutation (map (shown_by terms shown params) (filter (passes terms params) (db 0))) rows
+    → IsPermutation (map (observed_in terms shown params) (filter (passes terms params) (db 0))) rows
 answered db terms shown params rows h =
     let q = selected terms shown in
     let passing = filter (passes terms params) (db 0) in
@@ -69,7 +69,7 @@ answered db terms shown params rows h =
     let a : IsAnswer q (overlay db []) params rows = h Null in
     let staged : a.staged ≡ map (λ r. params ∷ r ∷ []) passing = a.grouped ∙ matched (overlay db []) terms params in
     let kept : a.kept ≡ map (output q) (map (λ r. params ∷ r ∷ []) passing) = a.distinct ∙ ap (map (output q)) staged in
-    let is : first a.kept ≡ map (shown_by terms shown params) passing = ap first kept ∙ map-map (λ (o : Output). o.1) (output q) _ ∙ map-map _ (λ r. params ∷ r ∷ []) passing in
+    let is : first a.kept ≡ map (observed_in terms shown params) passing = ap first kept ∙ map-map (λ (o : Output). o.1) (output q) _ ∙ map-map _ (λ r. params ∷ r ∷ []) passing in
     subst (λ (xs : List Row). IsPermutation xs rows) is (subst (IsPermutation (first a.kept)) (sym a.shown) (IsPermutation-map (λ (o : Output). o.1) a.kept a.ordered a.same))
 
 ---- what stays

@@ -35,7 +35,7 @@ use Rattle.sdb_sqlite.specs.Rows.{stored, IsRowOfStore, has_key, rows_at, conten
 use Rattle.sdb_sqlite.specs.Database.{HasTable, contents_of_state}
 use Rattle.sdb_sqlite.proofs.Texts.{by_k, selected, insert_terms, insert_is, insert_plain, update_shown, update_is, update_plain, delete_shown, delete_is, delete_plain}
 use Rattle.sdb_sqlite.proofs.Lists.{few_permutation, passed}
-use Rattle.sdb_sqlite.proofs.Queries.{passes, answered, unchanged_keeps, undone_keeps, shown_by}
+use Rattle.sdb_sqlite.proofs.Queries.{passes, answered, unchanged_keeps, undone_keeps, observed_in}
 use Rattle.sdb_sqlite.proofs.Gets.{keys_passed, tied_key, of_key}
 use Rattle.sdb_sqlite.proofs.Edits.{inserted, removed, once_after, row_of, row_tied, row_key_is, row_columns_are, added_own, added_other, taken_own, taken_other, changed_own, changed_other, kept_tied, kept_table}
 
@@ -155,11 +155,11 @@ insert_told old new r count it known fits limit none h =
 ---- the one row that a query by key shows
 
 one_shown : (db : Trees) (shown : List Term) (q : Key) (others : Row) (y : Row) (rows : List Row) → key_fits q → KeyIsEncodable q → AllByRecursion IsRowOfStore (db 0) → rows_at q (db 0) ≡ y ∷ []
-    → IsProgramAnswer [] (selected by_k shown) db (Blob (key_bytes q) ∷ others) rows → rows ≡ shown_by by_k shown (Blob (key_bytes q) ∷ others) y ∷ []
+    → IsProgramAnswer [] (selected by_k shown) db (Blob (key_bytes q) ∷ others) rows → rows ≡ observed_in by_k shown (Blob (key_bytes q) ∷ others) y ∷ []
 one_shown db shown q others y rows known fits tied one h =
     let params = Blob (key_bytes q) ∷ others in
     let passing : filter (passes by_k params) (db 0) ≡ y ∷ [] = keys_passed q others known fits (db 0) tied ∙ one in
-    few_permutation (shown_by by_k shown params y ∷ []) rows (omega arith) (subst (λ (xs : List Row). IsPermutation (map (shown_by by_k shown params) xs) rows) passing (answered db by_k shown params rows h))
+    few_permutation (observed_in by_k shown params y ∷ []) rows (omega arith) (subst (λ (xs : List Row). IsPermutation (map (observed_in by_k shown params) xs) rows) passing (answered db by_k shown params rows h))
 
 ---- the UPDATE
 

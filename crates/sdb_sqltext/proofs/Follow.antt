@@ -16,7 +16,7 @@ use Rattle.sdb_model.specs.Sql.{is_word, is_sign}
 use Rattle.sdb_sqltext.specs.Machine.{on_word, on_sign, name_of, value_of, literal_of, comparison_of, limit_of, with_name, with_literal, with_test, with_set, inserted, filtered_by, filtered, more_sets, untested, ending, begun, step}
 use Rattle.sdb_sqltext.specs.Parsing.{or_at, then as and_then, parse_from, of_tokens, parsed_by}
 use Rattle.sdb_sqltext.specs.Readers.{Read, place, next_word, next_sign, after_word, after_sign, part_at, choose, list_at, name_at, literal_at, names_at, literals_at, table_at, set_at, sets_at, null_test_at, comparison_at, test_at, where_at, limit_at, columns_at, listed_names_at, listed_literals_at, insert_at, update_at, delete_at, select_at, statement_by, after_semicolon, nothing_left, whole_at, read_by}
-use Rattle.sdb_sqltext.proofs.Told.{sign_is}
+use Rattle.sdb_sqltext.proofs.Reached.{sign_is}
 use Rattle.sdb_sqltext.proofs.Complete.{draft}
 use Rattle.sdb_sqltext.proofs.Linked.{onward, other, all_other, other_part, other_word, other_sign, word_goes, sign_goes, word_stops, sign_stops, left_len, part_shorter, word_shorter, sign_shorter, then_shorter, Follows, list_follows}
 use Rattle.sdb_types.proofs.Public.{by_option, by_test as by_bool}

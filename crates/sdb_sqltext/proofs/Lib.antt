@@ -1,4 +1,4 @@
-mod Told
+mod Reached
 mod Complete
 mod Viable
 mod Places

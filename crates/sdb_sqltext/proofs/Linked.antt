@@ -7,7 +7,7 @@ use Rattle.sdb_model.specs.Sql.{is_word, is_sign}
 use Rattle.sdb_sqltext.specs.Machine.{on_word, on_sign, step}
 use Rattle.sdb_sqltext.specs.Parsing.{finish, or_at, then as and_then, parse_from}
 use Rattle.sdb_sqltext.specs.Readers.{Read, next_word, next_sign, after_word, after_sign, part_at, choose, items_on, list_at}
-use Rattle.sdb_sqltext.proofs.Told.{chosen, word_is, sign_is}
+use Rattle.sdb_sqltext.proofs.Reached.{chosen, word_is, sign_is}
 use Rattle.sdb_types.proofs.Public.{by_option, some_is}
 use Rattle.sdb_types.specs.Options.{◌>>=◌}
 

@@ -8,7 +8,7 @@ use Rattle.sdb_model.specs.declared.token.Sign.TheVariants as sign
 use Rattle.sdb_model.specs.declared.token.Token.TheVariants.{Word, Sign as Mark}
 use Rattle.sdb_model.specs.SqlTokens.{Lexed, lexed}
 use Rattle.sdb_model.specs.Sql.{Tokens, IsWhole, Reads, Spells, is_word, is_sign, are_word, is_lexed_word, reads_word, statement_tokens, tokens_of}
-use Rattle.sdb_sqltext.proofs.Told.{word_is, sign_is}
+use Rattle.sdb_sqltext.proofs.Reached.{word_is, sign_is}
 use Rattle.sdb_types.proofs.Public.{and_parts as and_both}
 
 are_spelled : (k : Keyword) (st : Statement) → statement_tokens st ≡ Word k ∷ [] → (ts : Tokens) → are_word k ts ≡ true → Spells ts st

@@ -10,7 +10,7 @@ use Rattle.sdb_sqltext.specs.States.{State}
 use Rattle.sdb_sqltext.specs.States as state
 use Rattle.sdb_sqltext.specs.Machine.{untested, filtered, step}
 use Rattle.sdb_sqltext.specs.Parsing.{finish, or_at, then, parse_from}
-use Rattle.sdb_sqltext.proofs.Told.{so_far, Fine, answered, filter_is, whole_filter}
+use Rattle.sdb_sqltext.proofs.Reached.{so_far, Fine, answered, filter_is, whole_filter}
 use Rattle.sdb_sqltext.proofs.Complete.{run, run_append, spelled_reads, open_insert, open_insert_run, open_insert_is, draft}
 use Rattle.sdb_sqltext.proofs.Viable.{viable}
 use Rattle.sdb_types.proofs.Public.{bind_some, none_some, some_is}

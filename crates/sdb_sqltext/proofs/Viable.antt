@@ -18,7 +18,7 @@ use Rattle.sdb_sqltext.specs.States.{State}
 use Rattle.sdb_sqltext.specs.States as state
 use Rattle.sdb_model.specs.Sql.{Tokens, statement_tokens, Spells, IsWhole, CanSpell, Begins}
 use Rattle.sdb_sqltext.specs.Machine.{with_name, with_literal, with_test, with_set, filtered, filtered_by, insert_of, begun, step}
-use Rattle.sdb_sqltext.proofs.Told.{so_far, Fine, VerbFine, FilterFine, answered, head_so, tested, insert_is, filter_is, whole_filter}
+use Rattle.sdb_sqltext.proofs.Reached.{so_far, Fine, VerbFine, FilterFine, answered, head_so, tested, insert_is, filter_is, whole_filter}
 use Rattle.sdb_sqltext.proofs.Complete.{draft}
 
 -- ---- every state can still become a statement

@@ -81,13 +81,13 @@ named_within store_contents name o at some found is =
     named_there None none e = absurd (let f : false ≡ true = none in cc)
     named_there (Some i) h e = (position-Some (λ n. bytes_eq n name) (names_of store_contents) i [] e).0
 
-stands_at : {A : Type 0} (store_content : A → StoreView) (xs : List A) (at : ℕ) (x : A) → at < length xs → x ≡ get_or xs at x → slice_get (map store_content xs) at ≡ Some (store_content x)
-stands_at store_content xs at x inside is = slice_get-map store_content xs at ∙ ap (option_map store_content) (slice_get-get_or xs at x inside) ∙ ap (λ z. Some (store_content z)) (sym is)
+lies_at : {A : Type 0} (store_content : A → StoreView) (xs : List A) (at : ℕ) (x : A) → at < length xs → x ≡ get_or xs at x → slice_get (map store_content xs) at ≡ Some (store_content x)
+lies_at store_content xs at x inside is = slice_get-map store_content xs at ∙ ap (option_map store_content) (slice_get-get_or xs at x inside) ∙ ap (λ z. Some (store_content z)) (sym is)
 
 pub name_at : {A : Type 0} (store_content : A → StoreView) (xs : List A) (at home : ℕ) (x : A) → at < length xs → x ≡ get_or xs at x → at ≡ home → slice_get (names_of (map store_content xs)) home ≡ Some (store_content x).name
 name_at store_content xs at home x inside is same =
     subst (λ (i : ℕ). slice_get (names_of (map store_content xs)) i ≡ Some (store_content x).name) same
-    (slice_get-map (λ s. s.name) (map store_content xs) at ∙ ap (option_map (λ s. s.name)) (stands_at store_content xs at x inside is))
+    (slice_get-map (λ s. s.name) (map store_content xs) at ∙ ap (option_map (λ s. s.name)) (lies_at store_content xs at x inside is))
 
 pub same_home : (names : List (List ℕ)) (places : List Place) (t u : TableName) (at : ℕ) → at ≡ home t.ns places names → t ≡ u → at ≡ home u.ns places names
 same_home names places t u at is same = is ∙ ap (λ (v : TableName). home v.ns places names) same
@@ -113,7 +113,7 @@ called_at {A} {places} {later} name see xs at home q r x y inside is same named 
     let call : IsCallAt at q r (attached_as name see places xs) (attached_as name see later (slice_set xs at y)) = record {
       before = store_content x;
       now = store_content y;
-      stood = stands_at store_content xs at x inside is;
+      stood = lies_at store_content xs at x inside is;
       rest = map-set store_content xs at y;
       name = named;
       performed = λ h. called.performed (told_at is_known xs at x here h);
@@ -207,7 +207,7 @@ taken_out {A} name see xs ys own at x found is out left =
     let is_known : A → Type 0 = λ a. (see a).known in
     let place : (at < length (names_of (map store_content xs))) × (bytes_eq (get_or (names_of (map store_content xs)) at []) own ≡ true) × ((k : ℕ) → k < at → bytes_eq (get_or (names_of (map store_content xs)) k []) own ≡ false) = position-Some (λ n. bytes_eq n own) (names_of (map store_content xs)) at [] (sym found) in
     let inside : at < length xs = omega (arith, place.0, length-map (map store_content xs) (λ s. s.name), length-map xs store_content) in
-    let agrees : slice_get (map store_content xs) at ≡ Some (store_content x) = stands_at store_content xs at x inside is in
+    let agrees : slice_get (map store_content xs) at ≡ Some (store_content x) = lies_at store_content xs at x inside is in
     let same : name x ≡ own = sym (get_or_from_slice_get (names_of (map store_content xs)) at (name x) [] (name_at store_content xs at at x inside is refl)) ∙ (bytes_eq-Decides (get_or (names_of (map store_content xs)) at []) own).0 place.1 in
     let rest : map store_content ys ≡ remove (map store_content xs) at = ap (map store_content) out ∙ map-remove store_content xs at in
     record {

@@ -110,8 +110,8 @@ resolved_fine q images rec meta left (p, steps.Faulted) f place loose says h = t
 resolved_fine q images rec meta left (p, steps.BadRecord key) f place loose says h = tt
 resolved_fine q images rec meta left (p, steps.NoMemory) f place loose says h = tt
 
-pub step_fine : (q : Request) (s : ReadStage) (now : ℤ) (r : Reply) → IsValid q s → CanGet (read_pending_at q s) r → IsValid q (read_step s now r)
-step_fine q Asking now r f h = answered_fine q r h
-step_fine q (Resolving images rec meta p left) now r f h =
+pub step_valid : (q : Request) (s : ReadStage) (now : ℤ) (r : Reply) → IsValid q s → CanGet (read_pending_at q s) r → IsValid q (read_step s now r)
+step_valid q Asking now r f h = answered_fine q r h
+step_valid q (Resolving images rec meta p left) now r f h =
     resolved_fine q images rec meta left (recover_next rec meta p now r) f.0 f.1 f.2 f.3 (next_fine rec meta f.2 p now r f.4)
-step_fine q (Ended s) now r f h = absurd h
+step_valid q (Ended s) now r f h = absurd h

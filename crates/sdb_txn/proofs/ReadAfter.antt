@@ -7,7 +7,7 @@ use Rattle.sdb_txn.specs.declared.read.ReadStep.{ReadStep}
 use Rattle.sdb_txn.specs.declared.read.ReadStep.TheVariants as step
 use Rattle.sdb_txn.specs.Read.{ReadAt, ReadStage, Asking, Resolving, Ended, read_result, read_step, request_of}
 use Rattle.sdb_txn.specs.Valid.{AreWithin, IsValid, IsValidStep}
-use Rattle.sdb_txn.proofs.Keeps.{step_fine}
+use Rattle.sdb_txn.proofs.Keeps.{step_valid}
 use Rattle.sdb_snapshot.specs.Seen.{Seen}
 use Rattle.sdb_txn.specs.declared.txn.Doing.{Doing}
 use Rattle.sdb_txn.specs.declared.txn.Doing.TheVariants as doing
@@ -37,14 +37,14 @@ can_end s a q next step.NoMemory is f unread h = tt
 
 pub read_ends : (d : Doing) (s : Seen) (r : Reply) (now : ℤ) (e : ReadStep) (b : Access) → IsReading d → IsTxn d s → CanGet (pending_in d) r → IfReading d (λ a x. e ≢ step.NoMemory → e ≡ read_result (read_step x.stage now r)) → IfReading d (λ a x. b ≡ a) → CanEnd s b e
 read_ends (doing.Read a x) s r now e b at inv can answered same =
-    subst (λ (y : Access). CanEnd s y e) (sym same) (can_end s a x.request (read_step x.stage now r) e inv.0 (step_fine x.request x.stage now r inv.1 can) inv.2 answered)
+    subst (λ (y : Access). CanEnd s y e) (sym same) (can_end s a x.request (read_step x.stage now r) e inv.0 (step_valid x.request x.stage now r inv.1 can) inv.2 answered)
 read_ends doing.Idle s r now e b at inv can answered same = absurd at
 read_ends (doing.Commit c) s r now e b at inv can answered same = absurd at
 read_ends doing.Over s r now e b at inv can answered same = absurd at
 
 pub read_goes_on : (d u : Doing) (s : Seen) (r : Reply) (now : ℤ) (e : ReadStep) → IsReading d → IsTxn d s → CanGet (pending_in d) r → IfReading d (λ a x. e ≡ step.More → u ≡ doing.Read a (record x { stage = read_step x.stage now r })) → e ≡ step.More → IsTxn u s
 read_goes_on (doing.Read a x) u s r now e at inv can after more =
-    subst (λ (y : Doing). IsTxn y s) (sym (after more)) (inv.0, step_fine x.request x.stage now r inv.1 can, inv.2)
+    subst (λ (y : Doing). IsTxn y s) (sym (after more)) (inv.0, step_valid x.request x.stage now r inv.1 can, inv.2)
 read_goes_on doing.Idle u s r now e at inv can after more = absurd at
 read_goes_on (doing.Commit c) u s r now e at inv can after more = absurd at
 read_goes_on doing.Over u s r now e at inv can after more = absurd at

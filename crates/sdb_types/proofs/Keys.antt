@@ -27,8 +27,8 @@ same_key_exact a b h = key_exact a b (equal_of (key_cmp a b) h)
 pub same_key_of : (a b : Key) → a ≡ b → same_key a b ≡ true
 same_key_of a b e = ap (same_key a) (sym e) ∙ same_key_self a
 
-pub same_key_tells : (a b : Key) → ((same_key a b ≡ true) × (a ≡ b)) ⊎ ((same_key a b ≡ false) × (a ≢ b))
-same_key_tells a b = answered (same_key a b) refl
+pub same_key_decides : (a b : Key) → ((same_key a b ≡ true) × (a ≡ b)) ⊎ ((same_key a b ≡ false) × (a ≢ b))
+same_key_decides a b = answered (same_key a b) refl
   where
     answered : (t : Bool) → same_key a b ≡ t → ((same_key a b ≡ true) × (a ≡ b)) ⊎ ((same_key a b ≡ false) × (a ≢ b))
     answered true h = inl (h, same_key_exact a b h)
@@ -38,7 +38,7 @@ same_key_tells a b = answered (same_key a b) refl
         clash e = absurd (cc)
 
 pub same_key_turned : (a b : Key) → same_key a b ≡ same_key b a
-same_key_turned a b = by (same_key_tells a b) (same_key_tells b a)
+same_key_turned a b = by (same_key_decides a b) (same_key_decides b a)
   where
     by : ((same_key a b ≡ true) × (a ≡ b)) ⊎ ((same_key a b ≡ false) × (a ≢ b)) → ((same_key b a ≡ true) × (b ≡ a)) ⊎ ((same_key b a ≡ false) × (b ≢ a)) → same_key a b ≡ same_key b a
     by (inl x) (inl y) = x.0 ∙ sym y.0
@@ -58,4 +58,4 @@ key_eq_is a b =
 pub key_eq_is_same : (key_eq.ghosts).eq ≡ same_key
 key_eq_is_same = λ i a b. key_eq_is a b i
 
-pub ruleset tests = (nat_tests, same_key_tells)
+pub ruleset tests = (nat_tests, same_key_decides)

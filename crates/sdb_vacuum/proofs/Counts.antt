@@ -27,7 +27,7 @@ use Rattle.sdb_vacuum.specs.declared.work.VacuumStep.TheVariants as step
 use Rattle.sdb_vacuum.specs.Vacuum.{First, Nothing, Tombstone, Unresolved, Malformed, VacuumAt, VacuumStage, Scanning, Resolving, Removing, Over, answered, first_of, first_one, with_call, next_of_row, next_table, pending_at, removal_answered, resolved, spans_of, step_at, tombstone_or, whole}
 use Rattle.sdb_vacuum.specs.Valid.{IsValid}
 use Rattle.sdb_vacuum.specs.Calls.{VacuumReplies, is_removal, removals, rows_scanned, rows_in, tombstones, vacuum_after, vacuum_answer}
-use Rattle.sdb_vacuum.proofs.Fine.{after_fine}
+use Rattle.sdb_vacuum.proofs.WellFormed.{after_fine}
 use Rattle.sdb_types.specs.Replies.{is_applied}
 
 ---- at most so many calls

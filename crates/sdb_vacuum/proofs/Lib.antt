@@ -1,5 +1,5 @@
 mod Firm
-mod Fine
+mod WellFormed
 mod Counts
 mod Spans
 mod Ends

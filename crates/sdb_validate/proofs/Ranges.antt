@@ -13,7 +13,7 @@ use Rattle.sdb_types.proofs.Public.{and_both, key_exact, key_total, same_key_exa
 use Rattle.sdb_phases.specs.declared.check.Expected.TheVariants as wish
 use Rattle.sdb_phases.specs.Checks.{Wishes, with_writes, wished_version, base_of}
 use Rattle.sdb_ordered.specs.Start.{span_start}
-use Rattle.sdb_ordered.proofs.Public.{from_start, is_from, past_end, StandsFrom}
+use Rattle.sdb_ordered.proofs.Public.{from_start, is_from, past_end, LiesFrom}
 use Rattle.sdb_validate.specs.Rescan.{expected_of_written}
 use Rattle.sdb_validate.proofs.Rescans.{again, writes-get}
 
@@ -31,7 +31,7 @@ from_same span es q h =
     lookup-filter-keys (is_at (key_cmp q)) (is_from span) true (λ k e. subst (λ x. is_from span x ≡ true) (same_key_exact q k e) (and_both (is_le (key_cmp (span_start span) q)) true (from_start span q h) refl)) es
 
 -- after the first key outside, there is no key of the span
-none_after : (span : Span) (e : Key × Option TxId) (es : Bases) (q : Key) → StandsFrom span (e ∷ es) → in_span span e.0 ≡ false → in_span span q ≡ true → at q (e ∷ es) ≡ None
+none_after : (span : Span) (e : Key × Option TxId) (es : Bases) (q : Key) → LiesFrom span (e ∷ es) → in_span span e.0 ≡ false → in_span span q ≡ true → at q (e ∷ es) ≡ None
 unfolding same_key
 none_after span e es q agrees out h =
     sym (lookup-filter-keys (is_at (key_cmp q)) (in_span span) true (λ k t. subst (λ x. in_span span x ≡ true) (same_key_exact q k t) h) (e ∷ es))
@@ -66,11 +66,11 @@ pub all_based : (span : Span) (left : Bases) (o p : Option Expected) (q : Key) �
 all_based span left o p q none h = sym (ap (λ es. expected_of_written (in_span span q) (at q es) o) none ∙ none_based (in_span span q) o) ∙ h
 
 -- and where the next one is outside
-pub all_passed : (span : Span) (left : Bases) (e : Key × Option TxId) (es : Bases) (o p : Option Expected) (q : Key) → left ≡ e ∷ es → StandsFrom span left → in_span span e.0 ≡ false → expected_of_written (in_span span q) (at q left) o ≡ p → o ≡ p
+pub all_passed : (span : Span) (left : Bases) (e : Key × Option TxId) (es : Bases) (o p : Option Expected) (q : Key) → left ≡ e ∷ es → LiesFrom span left → in_span span e.0 ≡ false → expected_of_written (in_span span q) (at q left) o ≡ p → o ≡ p
 all_passed span left e es o p q next agrees out h = sym (by_test (in_span span q) refl) ∙ h where
   by_test : (b : Bool) → in_span span q ≡ b → expected_of_written b (at q left) o ≡ o
   by_test false t = refl
-  by_test true t = ap (λ x. expected_of_written true x o) (ap (at q) next ∙ none_after span e es q (subst (StandsFrom span) next agrees) out t)
+  by_test true t = ap (λ x. expected_of_written true x o) (ap (at q) next ∙ none_after span e es q (subst (LiesFrom span) next agrees) out t)
 
 ---- all writes
 

@@ -29,7 +29,7 @@ use Rattle.sdb_words.specs.Names.{IsTable}
 use Rattle.sdb_types.specs.Order.{table_text}
 use Rattle.sdb_words.specs.Places.{place_text, IsPlace}
 use Rattle.sdb_words.specs.Parser.{are_undashed, is_undashed, leaves, program}
-use Rattle.sdb_words.proofs.Taken.{replay_sub, sql_sub, audit_sub, bench_sub, export_sub, retire_sub, load_sub, alter_sub, schema_sub, any_taken}
+use Rattle.sdb_words.proofs.ParsedWords.{replay_sub, sql_sub, audit_sub, bench_sub, export_sub, retire_sub, load_sub, alter_sub, schema_sub, any_taken}
 use Rattle.sdb_words.proofs.Reading.{fits_sub, none_fits, one_fits, two_fits, three_fits}
 use Rattle.sdb_words.proofs.Forms.{name_of, named}
 

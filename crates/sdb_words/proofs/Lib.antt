@@ -6,4 +6,4 @@ mod Joined
 mod Placing
 mod Reading
 mod Steps
-mod Taken
+mod ParsedWords

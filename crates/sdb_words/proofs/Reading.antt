@@ -12,7 +12,7 @@ use Rattle.clap.specs.declared.error.kind.ErrorKind.{ErrorKind}
 use Rattle.clap.specs.declared.error.kind.ErrorKind.TheVariants as kind
 use Rattle.sdb_words.specs.Parser.{are_undashed, arguments, is_undashed, leaf0, leaf1, leaf2, leaf3, leaves, program, IsParsed}
 use Rattle.sdb_words.proofs.Steps.{unstripped}
-use Rattle.sdb_words.proofs.Taken.{IsStray, IsSub, leaf, replay_sub, sql_sub, audit_sub, bench_sub, export_sub, retire_sub, load_sub, alter_sub, schema_sub, none_taken, none_more, one_missing, one_taken, one_read, one_more, two_missing, two_missing_one, two_taken, two_read, two_more, three_missing, three_missing_two, three_missing_one, three_taken, three_read, three_more, nothing_refused, stray_refused}
+use Rattle.sdb_words.proofs.ParsedWords.{IsStray, IsSub, leaf, replay_sub, sql_sub, audit_sub, bench_sub, export_sub, retire_sub, load_sub, alter_sub, schema_sub, none_taken, none_more, one_missing, one_taken, one_read, one_more, two_missing, two_missing_one, two_taken, two_read, two_more, three_missing, three_missing_two, three_missing_one, three_taken, three_read, three_more, nothing_refused, stray_refused}
 
 first_plain : (w : Text) (rest : List Text) → are_undashed (w ∷ rest) ≡ true → strip_byte 45 w ≡ None
 first_plain w rest h = unstripped w (and_first (is_undashed w) (are_undashed rest) h)

@@ -8,7 +8,7 @@ use Rattle.sdb_model.specs.Explained.{Explained, AreTransactional}
 use Rattle.law_protocol.specs.Spread.{HoldAs}
 use Rattle.sdb_stores.specs.Views.{Attached}
 use Rattle.sdb_contents.specs.Board.{contents_of_views}
-use Rattle.law_runs.proofs.Public.{going_is_explained, going_is_taken, invariant_on_one, lone_effect, no_coordinator}
+use Rattle.law_runs.proofs.Public.{invariant_is_explained, invariant_is_accepted, invariant_on_one, lone_effect, no_coordinator}
 use Rattle.sdb_client.specs.Execution.{IsExecution, IsReachedBy}
 use Rattle.law_runs.specs.World.{IsWorld, WorldAt, state_of}
 use Rattle.sdb_world.specs.Ran.{HasRun}
@@ -20,11 +20,11 @@ use Rattle.sdb_world.proofs.Goes.{traces_on}
 
 pub world_explained : (w : WorldAt) → IsWorld w → IsExecution w.script w.events → (places : List Place) (opening closing : List StoreContents) (moments : List (List StoreContents)) → HoldAs w.script.catalog places opening empty → IsTrace places w.events opening moments closing → Explained w.script.catalog places w.events opening moments
 world_explained w h x places opening closing moments nothing traced =
-    going_is_explained (record { catalog = w.script.catalog; running = invariant_on_one w.script w.events h.playable x; apart = no_coordinator w.script h.playable; places = places; opening = opening; closing = closing; moments = moments; trace = traced; about = h.about; nothing = nothing })
+    invariant_is_explained (record { catalog = w.script.catalog; running = invariant_on_one w.script w.events h.playable x; apart = no_coordinator w.script h.playable; places = places; opening = opening; closing = closing; moments = moments; trace = traced; about = h.about; nothing = nothing })
 
 world_taken : (w : WorldAt) → IsWorld w → IsExecution w.script w.events → (places : List Place) (opening closing : List StoreContents) (moments : List (List StoreContents)) → HoldAs w.script.catalog places opening empty → IsTrace places w.events opening moments closing → AreTransactional w.script.catalog places opening moments
 world_taken w h x places opening closing moments nothing traced =
-    going_is_taken (record { catalog = w.script.catalog; running = invariant_on_one w.script w.events h.playable x; apart = no_coordinator w.script h.playable; places = places; opening = opening; closing = closing; moments = moments; trace = traced; about = h.about; nothing = nothing })
+    invariant_is_accepted (record { catalog = w.script.catalog; running = invariant_on_one w.script w.events h.playable x; apart = no_coordinator w.script h.playable; places = places; opening = opening; closing = closing; moments = moments; trace = traced; about = h.about; nothing = nothing })
 
 -- a world that has played its script
 pub played_explained : (w : WorldAt) → IsWorld w → (events : List Event) → events ≡ w.events → (opening closing : List StoreContents) → HasRun w opening closing → IsExplained w.script events opening

@@ -14,9 +14,9 @@ use Rattle.law_protocol.specs.History.{History, ProtocolState}
 use Rattle.law_protocol.specs.Lawful.{IsLawful, id, protocol_state}
 use Rattle.law_protocol.specs.Serial.{IsIn}
 use Rattle.law_protocol.specs.Trace.{IsTraced, StartsEmpty, closing, history}
-use Rattle.law_protocol.proofs.Public.{any_key, points_differ, recorded_row, row_recorded, taken_fits, traced_of, Whole, whole_of}
+use Rattle.law_protocol.proofs.Public.{any_key, points_differ, recorded_row, row_recorded, accepted_fits, traced_of, Whole, whole_of}
 use Rattle.law_clients.specs.System.{SystemAt}
-use Rattle.law_clients.proofs.Public.{beyond, order_runs, ran_of, taken_begun, taken_counts}
+use Rattle.law_clients.proofs.Public.{beyond, order_runs, ran_of, accepted_begun, accepted_counts}
 use Rattle.law_clients.specs.Filed.{number}
 use Rattle.law_clients.specs.Left.{ExecutionOk, ContainsTables}
 use Rattle.law_clients.specs.Story.{Closed, Finished, Opened, Rest, txn_ended_at}
@@ -51,7 +51,7 @@ module _ (catalog : List Table) (fit : Tables → Bool) (events : List Event) (s
       x = g.answered c
 
       counts : k < count_of x
-      counts = subst (λ m. k < m) (g.stories c).count (taken_counts g.plan g.past sys c k g.system small accepted)
+      counts = subst (λ m. k < m) (g.stories c).count (accepted_counts g.plan g.past sys c k g.system small accepted)
 
       ran : (inside : List Executed) → RanOk catalog fit g.plan g.past (number c k) inside (g.ran c k) → ExecutionOk catalog fit g.plan g.past (number c k) (g.ran c k)
       ran inside r = record { seen = r.inside.seen; planned = r.planned accepted; body = r.inside.body }
@@ -82,7 +82,7 @@ module _ (catalog : List Table) (fit : Tables → Bool) (events : List Event) (s
       positive m l = omega (arith, l)
 
       ordinal : t % 2 ^ 64 ≡ suc (t % 2 ^ 64 - 1)
-      ordinal = positive (t % 2 ^ 64) (taken_begun g.plan g.past sys t g.system accepted)
+      ordinal = positive (t % 2 ^ 64) (accepted_begun g.plan g.past sys t g.system accepted)
 
       small : (m : ℕ) → m % 2 ^ 64 < 2 ^ 64
       small m = omega arith
@@ -114,7 +114,7 @@ module _ (catalog : List Table) (fit : Tables → Bool) (events : List Event) (s
 
     recorded_is : (t : ℕ) → w.row t ≡ Some Committed → (t < 2 ^ 128) × Recorded places end (id t)
     recorded_is t row =
-        let small : t < 2 ^ 128 = taken_fits w t whole.all.one.begun whole.knows.fits (accepted t row) in
+        let small : t < 2 ^ 128 = accepted_fits w t whole.all.one.begun whole.knows.fits (accepted t row) in
         (small, subst (λ s. Recorded places s (id t)) turned.1 (row_recorded g.plan places w g.past (closing opening held) t whole small row))
 
     -- a list of the recorded transactions gives tables that fit, of which the stores show the rows

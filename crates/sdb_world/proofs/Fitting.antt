@@ -23,7 +23,7 @@ use Rattle.law_clients.specs.Fitting.{row_is_well_typed, tables_are_well_typed}
 use Rattle.law_clients.specs.Left.{ContainsTables}
 use Rattle.law_clients.proofs.Public.{Entries, is_fitting}
 use Rattle.law_protocol.specs.Spread.{one_store}
-use Rattle.law_protocol.proofs.Public.{one_standing, Single, single}
+use Rattle.law_protocol.proofs.Public.{one_stored, Single, single}
 use Rattle.sdb_contents.specs.Opening.{records_of}
 use Rattle.sdb_contents.specs.Decided.{recorded_among}
 use Rattle.sdb_contents.proofs.Public.{decision_there, first_or_later, none_in, recorded_all, recorded_has, recorded_small, records_rise}
@@ -113,7 +113,7 @@ module _ (w : WorldAt) (h : IsWorld w) (opening closing : List StoreContents) (p
 
   row_same : (key : Key) → is_some (find_table w.script.catalog key.table) ≡ true → row_at places closing key ≡ row_at [] end key
   row_same key table =
-      ap (λ (found : Option Record). option_and_then row_of_image (option_and_then (λ r. image_of r (decision_on places closing r)) found)) (one.same.at key (or_first _ _ table) ∙ sym (one_standing one_name one.last key))
+      ap (λ (found : Option Record). option_and_then row_of_image (option_and_then (λ r. image_of r (decision_on places closing r)) found)) (one.same.at key (or_first _ _ table) ∙ sym (one_stored one_name one.last key))
       ∙ ap (option_and_then row_of_image) (then_same _ _ (stored_at [] end key) (λ r. ap (image_of r) (then_same _ _ (id_in r.columns) decided_there)))
 
   pub final_row_fits : (key : Key) (columns : List Pair) → is_some (find_table w.script.catalog key.table) ≡ true → row_at places closing key ≡ Some columns → row_is_well_typed w.script.catalog key columns ≡ true

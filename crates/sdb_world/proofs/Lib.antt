@@ -8,7 +8,7 @@ mod Outcomes
 mod Fresh
 mod Works
 mod Takings
-mod Goings
+mod ClientSteps
 mod Explained
 mod Broken
 mod Hows

@@ -22,7 +22,7 @@ use Rattle.sdb_contents.specs.Odd.{IsOddAt}
 use Rattle.law_runs.specs.Ending.{IsEnd}
 use Rattle.law_runs.specs.Order.{HasRisen}
 use Rattle.law_runs.specs.Stores.{AreSound}
-use Rattle.law_runs.proofs.Public.{going_is_run_on_stores, invariant_on_one, is_order, points_on_stores, risen_fits, sound_on_stores}
+use Rattle.law_runs.proofs.Public.{invariant_is_run_on_stores, invariant_on_one, is_order, points_on_stores, risen_fits, sound_on_stores}
 use Rattle.law_runs.specs.World.{IsWorld, WorldAt}
 use Rattle.sdb_world.specs.Ran.{HasRun}
 use Rattle.sdb_world.proofs.Fitting.{final_row_fits, found_by_name}
@@ -57,7 +57,7 @@ module _ (w : WorldAt) (h : IsWorld w) (opening closing : List StoreContents) (p
         ordered = is_order w.script.places w.events closing recorded order all_small each have risen;
         small = risen_fits w.events recorded order all_small risen;
       } in
-      let run = going_is_run_on_stores w.script (record { running = traced.running; fitting = is_fitting w.script.catalog h.playable.apart; opening = opening; closing = closing; order = order; ends = end }) in
+      let run = invariant_is_run_on_stores w.script (record { running = traced.running; fitting = is_fitting w.script.catalog h.playable.apart; opening = opening; closing = closing; order = order; ends = end }) in
       let same : tables ≡ run.0 = printed (serial w.script.catalog run.1.answered.bodies empty).1 run.1.answered.images ∙ sym run.1.answered.printed in
       subst (λ (ts : List TableDump). IsRun w.script opening closing (record { events = w.events; order = order; tables = ts })) (sym same) run.1
 

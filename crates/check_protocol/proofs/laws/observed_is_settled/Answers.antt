@@ -1,4 +1,4 @@
-use Rattle.check_protocol.proofs.ShownLaws.{commit_shown, shows_commit_of, abort_shown, shows_abort_of, bad_row_shown, shows_bad_row_of}
+use Rattle.check_protocol.proofs.ObservedLaws.{commit_shown, shows_commit_of, abort_shown, shows_abort_of, bad_row_shown, shows_bad_row_of}
 use Rattle.check_protocol.proofs.SettledLaws.{settled_is, is_settled_of}
 use Rattle.check_protocol.proofs.laws.observed_is_settled.Goals as goal
 

@@ -1,4 +1,4 @@
-use Rattle.check_protocol.proofs.SaidLaws.{fresh_tells, owner_is, open_is, stopped_is, taken_is, asked_is, told_is, checked_is, preparing_tells, deciding_tells, risked_is, won_is, dead_is, met_is}
+use Rattle.check_protocol.proofs.StateLaws.{fresh_tells, owner_is, open_is, stopped_is, taken_is, asked_is, told_is, checked_is, preparing_tells, deciding_tells, risked_is, won_is, dead_is, met_is}
 use Rattle.check_protocol.proofs.laws.state_is_protocol_state.Goals as goal
 
 pub returns-clause-begun : goal.returns-clause-begun

@@ -1,5 +1,5 @@
 use Rattle.std.proofs.Common.{◌∙◌, sym}
-use Rattle.check_protocol.proofs.SaidLaws.{taken_is}
+use Rattle.check_protocol.proofs.StateLaws.{taken_is}
 use Rattle.check_protocol.proofs.TakeLaws.{begin_is, is_begin, take_is, is_take}
 use Rattle.check_protocol.proofs.CallLaws.{prepare_is, is_prepare, check_is, is_check, decide_is, is_decide, abort_is, is_abort}
 use Rattle.check_protocol.proofs.KnownLaws.{lawful_sound}

@@ -1,5 +1,5 @@
 use Rattle.sdb_model.specs.Exec.{updated}
-use Rattle.check_tables.proofs.Shown.{map_step}
+use Rattle.check_tables.proofs.RowSteps.{map_step}
 use Rattle.check_tables.proofs.statement.updated_rows.Goals as goal
 
 pub loop-row-preserved : goal.loop-row-preserved

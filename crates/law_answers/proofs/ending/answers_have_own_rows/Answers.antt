@@ -1,4 +1,4 @@
-use Rattle.law_answers.proofs.ShowsWhole.{answers_own, rows_shown}
+use Rattle.law_answers.proofs.OwnRowsWhole.{answers_own, rows_shown}
 use Rattle.law_answers.proofs.ending.answers_have_own_rows.Goals as goal
 
 pub returns-clause-each : goal.returns-clause-each

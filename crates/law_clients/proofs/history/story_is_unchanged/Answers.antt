@@ -1,4 +1,4 @@
-use Rattle.law_clients.proofs.Tellings.{story_stays, others_apart, others_silent}
+use Rattle.law_clients.proofs.Histories.{story_stays, others_apart, others_silent}
 use Rattle.law_clients.proofs.history.story_is_unchanged.Goals as goal
 
 pub returns : goal.returns

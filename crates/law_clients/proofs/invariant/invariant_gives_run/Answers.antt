@@ -1,5 +1,5 @@
-use Rattle.law_clients.proofs.InvariantEnds.{going_is_run}
+use Rattle.law_clients.proofs.InvariantEnds.{invariant_is_run}
 use Rattle.law_clients.proofs.invariant.invariant_gives_run.Goals as goal
 
 pub returns : goal.returns
-returns c = going_is_run
+returns c = invariant_is_run

@@ -1,4 +1,4 @@
-use Rattle.law_clients.proofs.Noting.{read_made}
+use Rattle.law_clients.proofs.ReadRecords.{read_made}
 use Rattle.law_clients.proofs.statements.calls_observe_rows.Goals as goal
 
 pub returns : goal.returns

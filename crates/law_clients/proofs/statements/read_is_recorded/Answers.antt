@@ -1,6 +1,6 @@
 use Rattle.std.specs.Prelude.{pos}
 use Rattle.law_clients.proofs.Checks.{read_checks}
-use Rattle.law_clients.proofs.Noting.{read_notes}
+use Rattle.law_clients.proofs.ReadRecords.{read_notes}
 use Rattle.law_clients.proofs.Notes.{read_adds}
 use Rattle.law_clients.proofs.statements.read_is_recorded.Goals as goal
 

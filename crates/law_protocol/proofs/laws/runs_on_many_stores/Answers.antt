@@ -1,4 +1,4 @@
-use Rattle.law_protocol.proofs.Told.{run_relocated}
+use Rattle.law_protocol.proofs.SerialOnStores.{run_relocated}
 use Rattle.law_protocol.proofs.laws.runs_on_many_stores.Goals as goal
 
 pub returns : goal.returns

@@ -1,4 +1,4 @@
-use Rattle.law_runs.proofs.Standing.{are_known}
+use Rattle.law_runs.proofs.StoredRecords.{are_known}
 use Rattle.law_runs.proofs.Runs.{by_laws}
 use Rattle.law_runs.proofs.records.records_are_known.Goals as goal
 

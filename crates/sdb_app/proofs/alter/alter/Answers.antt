@@ -3,7 +3,7 @@ use Rattle.sdb_stores.specs.Views.{names_of}
 use Rattle.sdb_catalog.specs.Calls.{first_contents}
 use Rattle.sdb_catalog.specs.declared.refused.AlterRefused.TheVariants as refused
 use Rattle.sdb_app.proofs.Alters.{answered_or_not}
-use Rattle.sdb_app.proofs.Playing.{err_then}
+use Rattle.sdb_app.proofs.Following.{err_then}
 use Rattle.sdb_app.proofs.alter.alter.Goals as goal
 
 pub returns-in-Ok-alter_table-clause-err : goal.returns-in-Ok-alter_table-clause-err

@@ -6,7 +6,7 @@ use Rattle.sdb_app.specs.Load.IsTableUnopened.{Unnamed, Unopened}
 use Rattle.sdb_app.proofs.Loads.{loaded_on, starved_on}
 use Rattle.sdb_shell.specs.Statements.{load_of, rows_after}
 use Rattle.sdb_shell.proofs.Public.{starved_after}
-use Rattle.sdb_app.proofs.Playing.{err_then}
+use Rattle.sdb_app.proofs.Following.{err_then}
 use Rattle.sdb_shell.proofs.Public.{map_ok}
 use Rattle.sdb_app.proofs.load.load.Goals as goal
 

@@ -3,7 +3,7 @@ use Rattle.sdb_stores.specs.Views.{StoreView as Counted}
 use Rattle.sdb_contents.proofs.Public.{goes_more, some_more}
 use Rattle.sdb_app.specs.Run.{IsBadFound}
 use Rattle.sdb_app.proofs.Headline.{kept_after, stops_after, stops_as, fit_script, outcome_is, ready_after, found_bad, found_first}
-use Rattle.sdb_app.proofs.Playing.{err_then, ok_seven}
+use Rattle.sdb_app.proofs.Following.{err_then, ok_seven}
 use Rattle.sdb_app.proofs.play.play.Goals as goal
 
 ---- places for which there is no memory

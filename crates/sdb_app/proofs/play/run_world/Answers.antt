@@ -8,7 +8,7 @@ use Rattle.sdb_world.specs.Ran.{HasNotRun}
 use Rattle.sdb_world.specs.Step.{CanFollow}
 use Rattle.sdb_app.specs.declared.status.Status.TheVariants as status
 use Rattle.sdb_app.proofs.Headline.{passed_on, stops_after, stops_both}
-use Rattle.sdb_app.proofs.Playing.{broken_played, err_both, executed_played, explained_played, none_played, odd_played, read_played, run_played}
+use Rattle.sdb_app.proofs.Following.{broken_played, err_both, executed_played, explained_played, none_played, odd_played, read_played, run_played}
 use Rattle.sdb_shell.proofs.Public.{map_ok}
 use Rattle.sdb_app.proofs.play.run_world.Goals as goal
 

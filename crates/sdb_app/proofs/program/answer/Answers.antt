@@ -9,7 +9,7 @@ use Rattle.sdb_app.specs.Ends.AreKeptOr.{Kept}
 use Rattle.sdb_app.specs.Promise.{AnswersOnce, promise_of}
 use Rattle.sdb_stores.specs.Views.{names_of}
 use Rattle.sdb_app.proofs.Keeping.{kept_by}
-use Rattle.sdb_app.proofs.Playing.{err_then}
+use Rattle.sdb_app.proofs.Following.{err_then}
 use Rattle.sdb_shell.proofs.Public.{map_ok}
 use Rattle.sdb_app.proofs.program.answer.Goals as goal
 

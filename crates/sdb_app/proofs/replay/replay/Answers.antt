@@ -5,7 +5,7 @@ use Rattle.sdb_app.specs.Ends.{stream, work_of}
 use Rattle.sdb_app.specs.Run.{CanBePlaced, IsScriptRead, StopsReplay}
 use Rattle.sdb_app.specs.Run.StopsReplay.{Unplayed}
 use Rattle.sdb_app.proofs.Playable.{followable, of_lines, placeable, playable}
-use Rattle.sdb_app.proofs.Playing.{err_then}
+use Rattle.sdb_app.proofs.Following.{err_then}
 use Rattle.sdb_shell.proofs.Public.{map_ok}
 use Rattle.sdb_app.proofs.replay.replay.Goals as goal
 

@@ -2,7 +2,7 @@ use Rattle.std.proofs.Common.{refl}
 use Rattle.sdb_app.specs.Retire.{moved_text}
 use Rattle.sdb_app.specs.Retire.StopsRetire.{Unanswered, Unretired}
 use Rattle.sdb_app.proofs.Keeping.{kept_retired}
-use Rattle.sdb_app.proofs.Playing.{err_then}
+use Rattle.sdb_app.proofs.Following.{err_then}
 use Rattle.sdb_app.proofs.Retiring.{retired_on, unretired_on}
 use Rattle.sdb_app.proofs.retire.retire.Goals as goal
 

@@ -4,7 +4,7 @@ use Rattle.sdb_app.specs.declared.status.Status.{Status}
 use Rattle.sdb_app.specs.Ends.{stream, work_of}
 use Rattle.sdb_app.specs.Schema.{StopsSchema}
 use Rattle.sdb_app.specs.Schema.StopsSchema.{Unkept}
-use Rattle.sdb_app.proofs.Playing.{err_then}
+use Rattle.sdb_app.proofs.Following.{err_then}
 use Rattle.sdb_app.proofs.Schemas.{whole_is_partly}
 use Rattle.sdb_app.proofs.schema.schema.Goals as goal
 

@@ -1,7 +1,7 @@
 use Rattle.std.proofs.Common.{◌≡◌, sym, subst, take, ◌∙◌}
 use Rattle.sdb_snapshot.specs.Sets.{IsSetInvariant}
 use Rattle.sdb_txn.specs.Txn.{TxnAt}
-use Rattle.sdb_client.proofs.Taken.{out_of_memory_is}
+use Rattle.sdb_client.proofs.Takings.{out_of_memory_is}
 use Rattle.sdb_client.proofs.finish.finish_read.Goals as goal
 
 pub forget-requires-clause-kept : goal.forget-requires-clause-kept

@@ -1,4 +1,4 @@
-use Rattle.sdb_client.proofs.Taken.{plan_fine}
+use Rattle.sdb_client.proofs.Takings.{plan_fine}
 use Rattle.sdb_client.proofs.plan.ask.Goals as goal
 
 pub begin_read-requires-clause-valid : goal.begin_read-requires-clause-valid

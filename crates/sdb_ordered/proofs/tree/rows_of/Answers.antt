@@ -7,7 +7,7 @@ use Rattle.sdb_types.specs.Order.{key_cmp}
 use Rattle.sdb_types.specs.Contents.{rows_among}
 use Rattle.sdb_types.specs.declared.key.Key.{Key}
 use Rattle.sdb_types.specs.declared.pair.Pair.{Pair}
-use Rattle.sdb_ordered.proofs.SpanLemmas.{is_from, rows_from, stands_from, all_found, all_passed, StandsFrom}
+use Rattle.sdb_ordered.proofs.SpanLemmas.{is_from, rows_from, lies_from, all_found, all_passed, LiesFrom}
 use Rattle.sdb_ordered.proofs.tree.rows_of.Goals as goal
 use Rattle.sdb_ordered.proofs.tree.rows_of.Goals.{in-None, in-Some+then-not-contains}
 
@@ -19,7 +19,7 @@ loop-key-init c =
     (search rules) ∙ c.range-key-items.ensures.between (search rules) ∙ ap (λ (k : Key). entries_between key_cmp (Included k) Unbounded es) c.in_ok-start.ensures in
     record {
       answered = ap (λ found. found ++ rows_among span c.into_iter-key-iterator.result) c.new-found.ensures ∙ ap (rows_among span) iter ∙ rows_from span es;
-      agrees = subst (StandsFrom span) (sym iter) (stands_from span es c.range-key-items.ensures.ordered);
+      agrees = subst (LiesFrom span) (sym iter) (lies_from span es c.range-key-items.ensures.ordered);
     }
 
 pub returns-clause-rows : goal.returns-clause-rows

@@ -1,4 +1,4 @@
-use Rattle.sdb_phases.proofs.RecoverStands.{recovers_in_four, aborts_expired, forwards_committed, backs_aborted}
+use Rattle.sdb_phases.proofs.RecoverInvariants.{recovers_in_four, aborts_expired, forwards_committed, backs_aborted}
 use Rattle.sdb_phases.proofs.laws.recovers.Goals as goal
 
 pub returns : goal.returns

@@ -1,7 +1,7 @@
 use Rattle.std.proofs.Common.{◌∙◌, Some, None}
 use Rattle.sdb_record.specs.declared.coordinator.Decision.TheVariants as decision
 use Rattle.sdb_record.specs.Prepared.{decided_at, record_put}
-use Rattle.sdb_record.proofs.TakenLaws.{prepared-base}
+use Rattle.sdb_record.proofs.PreparedRecords.{prepared-base}
 use Rattle.sdb_record.proofs.ImageLaws.{image-open, prepared-unsettled}
 use Rattle.sdb_record.proofs.laws.image_of_prepared.Goals as goal
 

@@ -1,6 +1,6 @@
 use Rattle.std.proofs.Common.{◌∙◌, ap}
 use Rattle.sdb_record.specs.Meta.{checked}
-use Rattle.sdb_record.proofs.TakenLaws.{prepared-key, prepared-columns, left-checked}
+use Rattle.sdb_record.proofs.PreparedRecords.{prepared-key, prepared-columns, left-checked}
 use Rattle.sdb_record.proofs.ImageLaws.{prepared-version, prepared-unresolved}
 use Rattle.sdb_record.proofs.laws.prepared_is_unresolved.Goals as goal
 

@@ -1,4 +1,4 @@
-use Rattle.sdb_record.proofs.TakenLaws.{prepared-base}
+use Rattle.sdb_record.proofs.PreparedRecords.{prepared-base}
 use Rattle.sdb_record.proofs.ImageLaws.{prepared-back}
 use Rattle.sdb_record.proofs.laws.rolled_back_is_base.Goals as goal
 

@@ -1,4 +1,4 @@
-use Rattle.sdb_record.proofs.Fine.{accepted-keep}
+use Rattle.sdb_record.proofs.Checked.{accepted-keep}
 use Rattle.sdb_record.proofs.roll.committed_image.Goals as goal
 
 pub kept_record-requires : goal.kept_record-requires

@@ -2,7 +2,7 @@ use Rattle.std.proofs.Common.{◌≡◌, ◌∙◌, sym, ap, Some}
 use Rattle.std.specs.Option.{option_copied}
 use Rattle.sdb_record.specs.Names.{base_name}
 use Rattle.sdb_record.proofs.NameLemmas.{kept-is_name}
-use Rattle.sdb_record.proofs.Fine.{keeps-at}
+use Rattle.sdb_record.proofs.Checked.{keeps-at}
 use Rattle.sdb_record.proofs.roll.lay_base.Goals as goal
 
 pub unkept-requires : goal.unkept-requires

@@ -2,7 +2,7 @@ use Rattle.std.proofs.Common.{not}
 use Rattle.sdb_types.specs.declared.record.State.TheVariants.{Committed}
 use Rattle.sdb_types.proofs.Public.{and_first}
 use Rattle.sdb_record.specs.Meta.{is_transactional, is_in}
-use Rattle.sdb_record.proofs.Fine.{accepted-keep}
+use Rattle.sdb_record.proofs.Checked.{accepted-keep}
 use Rattle.sdb_record.proofs.roll.rolled_back.Goals as goal
 
 pub kept_record-requires : goal.kept_record-requires

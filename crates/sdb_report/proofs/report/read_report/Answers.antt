@@ -1,5 +1,5 @@
-use Rattle.sdb_report.proofs.Shown.{bad_told}
-use Rattle.sdb_report.proofs.Told.{ok_told, only_told}
+use Rattle.sdb_report.proofs.RisingTables.{bad_told}
+use Rattle.sdb_report.proofs.Answered.{ok_told, only_told}
 use Rattle.sdb_report.proofs.report.read_report.Goals as goal
 
 pub returns-clause-ok : goal.returns-clause-ok

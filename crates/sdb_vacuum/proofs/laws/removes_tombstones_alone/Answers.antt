@@ -1,4 +1,4 @@
-use Rattle.sdb_vacuum.proofs.Fine.{after_fine}
+use Rattle.sdb_vacuum.proofs.WellFormed.{after_fine}
 use Rattle.sdb_vacuum.proofs.laws.removes_tombstones_alone.Goals as goal
 
 pub returns : goal.returns

@@ -11,7 +11,7 @@ use Rattle.sdb_types.specs.Contents.{in_span}
 use Rattle.sdb_types.specs.Order.{key_cmp}
 use Rattle.sdb_phases.specs.declared.check.Expected.TheVariants.{Based}
 use Rattle.sdb_phases.specs.Checks.{wished_version}
-use Rattle.sdb_ordered.proofs.Public.{is_from, stands_from, stands_later, StandsFrom}
+use Rattle.sdb_ordered.proofs.Public.{is_from, lies_from, lies_later, LiesFrom}
 use Rattle.sdb_validate.specs.Rescan.{expected_of_written}
 use Rattle.sdb_validate.proofs.Ranges.{from_least, one_based, all_passed}
 use Rattle.sdb_validate.proofs.checks.put_writes.Goals as goal
@@ -24,7 +24,7 @@ loop-key-init c =
     (search rules) ∙ c.range-key-items.ensures.between (search rules) ∙ ap (λ (k : Key). entries_between key_cmp (Included k) Unbounded es) c.in_ok-start.ensures in
     record {
       wished = λ q. from_least span c.into_iter-key-iterator.result es (get c.args.wishes.now q) q iter;
-      agrees = subst (StandsFrom span) (sym iter) (stands_from span es c.range-key-items.ensures.ordered);
+      agrees = subst (LiesFrom span) (sym iter) (lies_from span es c.range-key-items.ensures.ordered);
     }
 
 pub loop-key-preserved : goal.loop-key-preserved
@@ -38,7 +38,7 @@ loop-key-preserved c =
           ap (λ n. expected_of_written (in_span span q) (lookup (is_at (key_cmp q)) es) (get n q)) (c.in_ok-insert.ensures.ok ∙ ap (λ same. insert m e.0 (Based same)) (c.is_based-same.ensures ∙ ap (λ o. wished_version o e.1) c.find.ensures))
           ∙ one_based span e es m q (sym c.if-not-contains.ensures)
           ∙ ap (λ left. expected_of_written (in_span span q) (lookup (is_at (key_cmp q)) left) (get m q)) (sym c.in-Some.ensures.steps) ∙ c.loop-key.invariant.wished q;
-      agrees = stands_later span e es (subst (StandsFrom span) c.in-Some.ensures.steps c.loop-key.invariant.agrees);
+      agrees = lies_later span e es (subst (LiesFrom span) c.in-Some.ensures.steps c.loop-key.invariant.agrees);
     }
 
 pub returns-then-not-contains : goal.returns-then-not-contains

@@ -1,6 +1,6 @@
 use Rattle.std.proofs.Common.{◌∙◌, map, string_bytes}
 use Rattle.clap.specs.Words.{app_of}
-use Rattle.sdb_words.proofs.Taken.{program_fails, program_takes}
+use Rattle.sdb_words.proofs.ParsedWords.{program_fails, program_takes}
 use Rattle.sdb_words.proofs.read.parsed.Goals as goal
 
 pub returns-in-Ok-clause-ok : goal.returns-in-Ok-clause-ok

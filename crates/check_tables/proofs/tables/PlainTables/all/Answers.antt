@@ -1,4 +1,4 @@
-use Rattle.check_tables.proofs.Shown.{all_of_view}
+use Rattle.check_tables.proofs.RowSteps.{all_of_view}
 use Rattle.check_tables.proofs.tables.PlainTables.all.Goals as goal
 
 pub returns : goal.returns

@@ -3,7 +3,7 @@ use Rattle.std.specs.Prelude.{IfSome}
 use Rattle.sdb_model.specs.Sql.{Reads, Refuses}
 use Rattle.sdb_sqltext.specs.Answers.{refusal_of}
 use Rattle.sdb_client.specs.Client.{StatementPost}
-use Rattle.sdb_client.proofs.Taken.{unread_told}
+use Rattle.sdb_client.proofs.Takings.{unread_told}
 use Rattle.sdb_client.proofs.client.Client.take.Goals as goal
 
 pub returns-in-Ok-clause-answered : goal.returns-in-Ok-clause-answered

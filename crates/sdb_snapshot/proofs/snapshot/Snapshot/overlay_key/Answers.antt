@@ -2,7 +2,7 @@ use Rattle.std.proofs.Common.{◌≡◌, List, IfOk, subst, ap, ◌∙◌}
 use Rattle.sdb_record.specs.declared.access.Access.TheVariants as access
 use Rattle.sdb_record.specs.declared.access.Image.{Image}
 use Rattle.sdb_snapshot.specs.Seen.{overlay}
-use Rattle.sdb_snapshot.proofs.Shown.{key_shown}
+use Rattle.sdb_snapshot.proofs.SeenRows.{key_shown}
 use Rattle.sdb_snapshot.proofs.snapshot.Snapshot.overlay_key.Goals as goal
 
 pub returns : goal.returns

@@ -2,7 +2,7 @@ use Rattle.std.proofs.Common.{◌≡◌, List, IfOk, subst, ap, ◌∙◌}
 use Rattle.sdb_record.specs.declared.access.Access.TheVariants as access
 use Rattle.sdb_record.specs.declared.access.Image.{Image}
 use Rattle.sdb_snapshot.specs.Seen.{overlay, images_at, row_seen}
-use Rattle.sdb_snapshot.proofs.Shown.{span_shown}
+use Rattle.sdb_snapshot.proofs.SeenRows.{span_shown}
 use Rattle.sdb_snapshot.proofs.snapshot.Snapshot.overlay_span.Goals as goal
 
 pub returns : goal.returns

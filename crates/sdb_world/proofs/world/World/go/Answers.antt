@@ -2,7 +2,7 @@ use Rattle.std.proofs.Common.{◌≡◌, ◌-◌, ◌∙◌, ap, get_or, refl, s
 use Rattle.sdb_client.specs.Client.{IsBusy, IsIdle}
 use Rattle.sdb_client.specs.declared.slot.ClientSlot.{ClientSlot}
 use Rattle.law_runs.specs.World.{WorldAt}
-use Rattle.sdb_world.proofs.Goings.{at_write, goes_call, goes_idle, goes_take, left_of, place_low}
+use Rattle.sdb_world.proofs.ClientSteps.{at_write, goes_call, goes_idle, goes_take, left_of, place_low}
 use Rattle.sdb_world.proofs.Takings.{on_ok}
 use Rattle.sdb_model.specs.declared.event.Event.TheVariants as event
 use Rattle.sdb_contents.proofs.Public.{unasked}

@@ -6,7 +6,7 @@ use Rattle.sdb_model.specs.declared.script.Act.TheVariants as act
 use Rattle.sdb_world.specs.Step.{HasCome, IsOne}
 use Rattle.sdb_world.proofs.Acts.{Came, acts_stop}
 use Rattle.sdb_world.proofs.Explained.{came_explained, on_explained}
-use Rattle.sdb_world.proofs.Goings.{goes_clock}
+use Rattle.sdb_world.proofs.ClientSteps.{goes_clock}
 use Rattle.sdb_world.proofs.Takings.{on_ok}
 use Rattle.sdb_contents.proofs.Public.{unasked}
 use Rattle.sdb_world.proofs.Asked.{asks_pushed, asks_stop}

@@ -31,7 +31,7 @@ use Rattle.sdb_vacuum.specs.Vacuum.{First, Malformed, Nothing, Over, Removing, R
 use Rattle.law_answers.specs.Commits.{IsBadRow, ObservesBad}
 use Rattle.law_answers.specs.Reads.{IsFoundBy, ResolvesBy}
 use Rattle.law_answers.specs.Vacuums.{VacuumStageBy, VacuumEndBy, VacuumBy}
-use Rattle.law_answers.proofs.ReadSteps.{ComesTo, IsDataTable, bad_is, found_more, found_rows, open_is, recovered_is, rows_data, rows_read, shown_read}
+use Rattle.law_answers.proofs.ReadSteps.{ComesTo, IsDataTable, bad_is, found_more, found_rows, open_is, recovered_is, rows_data, rows_read, observed_read}
 use Rattle.law_answers.proofs.Rows.{reply_now}
 use Rattle.sdb_types.specs.Replies.{is_applied, is_fault}
 use Rattle.sdb_vacuum.proofs.Public.{open_state}
@@ -142,7 +142,7 @@ module _ (events : List Event) (calls : List StoreCall) (m : StoreCall) (older :
       by : (x : Kind) → kind_of r ≡ x → FirstBy now_calls (first_of left) → FirstBy now_calls (first_one x r left (first_of left))
       by Firm e h = here (is_tombstone r) h
       by (Open meta) e h = record { found = f; is_open = e; phase = tt }
-      by Bad e h = record { call = f.read; found = r; among = f.among; observed = shown_read f.read.reply r f.found.0; same = refl; bad = bad (bad_is r e); place = inr (rows_read f.read f.reads f.of_data, f.found.0) }
+      by Bad e h = record { call = f.read; found = r; among = f.among; observed = observed_read f.read.reply r f.found.0; same = refl; bad = bad (bad_is r e); place = inr (rows_read f.read f.reads f.of_data, f.found.0) }
 
   next_led : (ss : List Span) (n : ℕ) → n ≡ count_by removes now_calls → SweepLed (next_table ss n)
   next_led [] n e = (tt, e)

@@ -11,7 +11,7 @@ use Rattle.sdb_types.specs.declared.record.Reply.TheVariants as reply
 use Rattle.sdb_types.specs.declared.record.State.TheVariants as state
 use Rattle.sdb_types.specs.Contents.{holds, in_span, record_among, rise}
 use Rattle.sdb_types.specs.Order.{same_key}
-use Rattle.sdb_types.proofs.Public.{and_both, and_first, and_second, false_true, none_some, same_key_of, same_key_self, same_key_tells, some_is}
+use Rattle.sdb_types.proofs.Public.{and_both, and_first, and_second, false_true, none_some, same_key_of, same_key_self, same_key_decides, some_is}
 use Rattle.sdb_record.specs.Coordinator.{coordinator_key_of, decision_in, is_coordinator_table, is_expired}
 use Rattle.sdb_record.specs.Meta.{checked, id_in, is_in, is_moment, is_transactional, is_unresolved}
 use Rattle.sdb_record.specs.Moved.{condition_of}
@@ -35,7 +35,7 @@ use Rattle.law_clients.proofs.Resolves.{firm_image, image_stays, row_stays, soun
 use Rattle.law_clients.proofs.SessionReading.{others_apart}
 use Rattle.law_clients.proofs.Recovers.{one_database, recovers}
 use Rattle.law_clients.proofs.Writes.{version_holds}
-use Rattle.law_clients.proofs.Noting.{coordinators}
+use Rattle.law_clients.proofs.ReadRecords.{coordinators}
 
 ---- what a database means
 
@@ -97,7 +97,7 @@ pub removed_others : (catalog : List Table) → IsApart catalog → (g h : Datab
 removed_others catalog apart g h b listed now k n = ap (means h) (now k ∙ ap (λ x. if x then None else g k) n) ∙ ap (λ (f : Record → Option Decided). option_and_then (λ r. image_of r (f r)) (g k)) deciding
   where
     other : (q : Key) → is_coordinator_table q.table ≡ true → h q ≡ g q
-    other q there = elim (same_key_tells q b.key) [
+    other q there = elim (same_key_decides q b.key) [
       | inl s ↦ false_true (sym (apart b.key listed) ∙ ap (λ (x : Key). is_coordinator_table x.table) (sym s.1) ∙ there)
       | inr m ↦ now q ∙ ap (λ x. if x then None else g q) m.0
     ]
@@ -139,10 +139,10 @@ removed_quiet catalog apart g h b sound listed present firm dead now = record {
     away k e = now k ∙ ap (λ x. if x then None else g k) e
 
     was : (k : Key) (r : Record) → h k ≡ Some r → g k ≡ Some r
-    was k r e = elim (same_key_tells k b.key) [ inl s ↦ none_some r (sym (at k s.0) ∙ e) | inr n ↦ sym (away k n.0) ∙ e ]
+    was k r e = elim (same_key_decides k b.key) [ inl s ↦ none_some r (sym (at k s.0) ∙ e) | inr n ↦ sym (away k n.0) ∙ e ]
 
     other : (k : Key) → is_coordinator_table k.table ≡ true → h k ≡ g k
-    other k there = elim (same_key_tells k b.key) [
+    other k there = elim (same_key_decides k b.key) [
       | inl s ↦ false_true (sym (apart b.key listed) ∙ ap (λ (x : Key). is_coordinator_table x.table) (sym s.1) ∙ there)
       | inr n ↦ away k n.0
     ]
@@ -151,13 +151,13 @@ removed_quiet catalog apart g h b sound listed present firm dead now = record {
     image_at k e = ap (image_in g) e ∙ firm_means g b.key b present firm
 
     same_rows : (k : Key) → row_in h k ≡ row_in g k
-    same_rows k = elim (same_key_tells k b.key) [
+    same_rows k = elim (same_key_decides k b.key) [
       | inl s ↦ ap (λ o. option_and_then row_of_image (means h o)) (at k s.0) ∙ sym (ap (option_and_then row_of_image) (image_at k s.1) ∙ ap (λ x. if x then None else Some (user_columns b.columns)) dead)
       | inr n ↦ ap (option_and_then row_of_image) (removed_others catalog apart g h b listed now k n.0)
     ]
 
     images : (k : Key) → (image_in h k ≡ image_in g k) ⊎ ((is_deleted g k ≡ true) × (image_in h k ≡ None))
-    images k = elim (same_key_tells k b.key) [
+    images k = elim (same_key_decides k b.key) [
       | inl s ↦ inr (ap is_dead (image_at k s.1) ∙ dead, ap (means h) (at k s.0))
       | inr n ↦ inl (removed_others catalog apart g h b listed now k n.0)
     ]
@@ -203,7 +203,7 @@ removed_more catalog apart was g h n b r listed present firm dead now = record {
     was_dead = ap is_dead (sym (r.others b.key listed fresh)) ∙ ap is_dead (firm_means g b.key b present firm) ∙ dead
 
     gone : (k : Key) → is_among (b.key ∷ r.keys) k ≡ true → (is_listed catalog k ≡ true) × (is_deleted was k ≡ true) × (h k ≡ None)
-    gone k e = elim (same_key_tells k b.key) [
+    gone k e = elim (same_key_decides k b.key) [
       | inl s ↦ (ap (is_listed catalog) s.1 ∙ listed, ap (is_deleted was) s.1 ∙ was_dead, now k ∙ ap (λ x. if x then None else g k) s.0)
       | inr m ↦ let x = r.gone k (sym (ap (λ y. y || is_among r.keys k) m.0) ∙ e) in (x.0, x.1, now k ∙ ap (λ y. if y then None else g k) m.0 ∙ x.2)
     ]
@@ -253,7 +253,7 @@ module _ (catalog : List Table) (was : Database) (moment : ℤ) (g : Database) w
     tables = l.tables;
     rise = l.rise.1;
     matches = l.matches.1;
-    vacuumed = λ k listed outside none. elim (same_key_tells k r.key) [
+    vacuumed = λ k listed outside none. elim (same_key_decides k r.key) [
       | inl e ↦ subst (IsVacuumedAt was g moment) (sym e.1) c
       | inr n ↦ l.vacuumed k listed outside (ap (λ b. if b then Some r else record_among left k) n.0 ∙ none)
     ];
@@ -336,7 +336,7 @@ module _ (catalog : List Table) (was : Database) (moment : ℤ) (g h : Database)
     tables = l.tables;
     rise = l.rise.1;
     matches = left_present;
-    vacuumed = λ k listed outside none. elim (same_key_tells k rec.key) [
+    vacuumed = λ k listed outside none. elim (same_key_decides k rec.key) [
       | inl e ↦ subst (IsVacuumedAt was h moment) (sym e.1) c
       | inr n ↦ swept_stays k listed n.1 (l.vacuumed k listed outside (ap (λ b. if b then Some rec else record_among left k) n.0 ∙ none))
     ];
@@ -348,7 +348,7 @@ module _ (catalog : List Table) (was : Database) (moment : ℤ) (g h : Database)
     tables = l.tables;
     rise = subst (λ q. Rise (q ∷ keys_of left)) (sym same) l.rise;
     matches = ((ap (is_listed catalog) same ∙ l.matches.0.0, ap h same ∙ present), left_present);
-    vacuumed = λ k listed outside none. elim (same_key_tells k rec.key) [
+    vacuumed = λ k listed outside none. elim (same_key_decides k rec.key) [
       | inl e ↦ none_some x (sym none ∙ ap (λ b. if b then Some x else record_among left k) (same_key_of k x.key (e.1 ∙ sym same)))
       | inr n ↦ swept_stays k listed n.1 (l.vacuumed k listed outside (ap (λ b. if b then Some rec else record_among left k) n.0 ∙ sym (ap (λ b. if b then Some x else record_among left k) (ap (same_key k) same ∙ n.0)) ∙ none))
     ];
@@ -399,7 +399,7 @@ module _ (catalog : List Table) (apart : IsApart catalog) (moment : ℤ) (was g 
   }
     where
       differs : (k : Key) → k ≢ b.key → same_key k b.key ≡ false
-      differs k other = elim (same_key_tells k b.key) [ inl e ↦ absurd (other e.1) | inr f ↦ f.0 ]
+      differs k other = elim (same_key_decides k b.key) [ inl e ↦ absurd (other e.1) | inr f ↦ f.0 ]
 
   removed_alone : RemovedSoFar catalog was g n → (r : Reply) → Wrote b.key None r g h → Quiet catalog g h × VacuumLeadsTo catalog was moment h (removal_answered ss n left r)
   removed_alone removed r (Done replied now) = (quiet, by replied)

@@ -27,8 +27,8 @@ use Rattle.law_clients.proofs.Public.{access_table, found_itself, own_table}
 use Rattle.law_answers.specs.Unfit.{fits_if_any}
 use Rattle.law_answers.proofs.Given.{asked_gives}
 use Rattle.law_answers.proofs.OneRow.{IsSeen, fits_before, key_told, one_row_left, rows_told}
-use Rattle.law_answers.proofs.Shows.{effective_by, has_kept, has_next, tells_none}
-use Rattle.law_answers.proofs.ShowsTold.{showing_idle}
+use Rattle.law_answers.proofs.OwnRows.{effective_by, has_kept, has_next, tells_none}
+use Rattle.law_answers.proofs.OwnRowsAnswered.{showing_idle}
 use Rattle.law_answers.proofs.Unfit.{inside_fits}
 
 ---- what a plan gives

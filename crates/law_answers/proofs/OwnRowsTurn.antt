@@ -19,12 +19,12 @@ use Rattle.sdb_client.specs.Client.{given_answer, given_left, gives, with_rows_r
 use Rattle.law_answers.specs.Changes.{HasRead}
 use Rattle.law_answers.specs.Views.{IsViewOf, SeesOwn, GivesOwn}
 use Rattle.law_answers.specs.Invariant.{IsAnswered, begun_in, open_after}
-use Rattle.law_answers.proofs.ShowsGiven.{next_given}
-use Rattle.law_answers.proofs.ShowsRead.{kept_now, now_has}
-use Rattle.law_answers.proofs.ShowsTold.{sees_then}
+use Rattle.law_answers.proofs.OwnRowsGiven.{next_given}
+use Rattle.law_answers.proofs.OwnRowsRead.{kept_now, now_has}
+use Rattle.law_answers.proofs.OwnRowsAnswered.{sees_then}
 use Rattle.law_answers.proofs.Takings.{left_idle}
 use Rattle.law_answers.proofs.Unfit.{table_at}
-use Rattle.sdb_client.proofs.Public.{noting_idle}
+use Rattle.sdb_client.proofs.Public.{reading_stays_idle}
 
 module _ (catalog : List Table) (c : ℕ) (events : List Event) (e : Event) (acked : List Executed) (all : AllByRecursion (IsAnswered catalog events c) acked) (n : ℕ) (begin : Executed) (body : List Executed) (since : from_begin n acked ≡ begin ∷ body) (number : n ≡ begun_in acked)
     (t : TxnAt) (sees : SeesOwn catalog events c body t.seen) (kept : WereRead t.seen.read_set t.seen.writes) (z : Executed) (p : Planned) (a : Access) (calls : List StoreCall) (images : List Record) (are : calls_of (events ++ e ∷ []) c z ≡ calls) (h : HasRead (request_of a) calls images []) where
@@ -38,6 +38,6 @@ module _ (catalog : List Table) (c : ℕ) (events : List Event) (e : Event) (ack
       → (open_after acked ≡ true → GivesOwn catalog E c (rest_of (from_begin (begun_in acked) acked)) z (given_answer v (gives p a v))) × IsViewOf catalog E c (rest_of (from_begin n (acked ++ z ∷ []))) (given_left v (gives p a v))
   read_next is reads no_vacuum named asked access_is answered finished =
       let before : SeesOwn catalog E c body t.seen = sees_then catalog c events e acked all n begin body since t.seen sees z in
-      next_given catalog E c n acked z begin body p a v since number is reads named asked access_is answered (left_idle v (gives p a v) (noting_idle t a images)) (kept_now t a images kept)
+      next_given catalog E c n acked z begin body p a v since number is reads named asked access_is answered (left_idle v (gives p a v) (reading_stays_idle t a images)) (kept_now t a images kept)
       (now_has catalog E c body z a t images (subst (λ cs. HasRead (request_of a) cs images []) (sym are) h) kept before no_vacuum
       (λ q inside. ap is_some (table_at catalog p a (found_itself catalog (table_of p.statement) p.table named) (ap access_table access_is ∙ own_table p.table p.statement) q inside)) finished)

@@ -18,7 +18,7 @@ use Rattle.sdb_phases.specs.CommitLaws.{observes_decision, is_decision}
 use Rattle.sdb_phases.specs.Recover.{Received, AreRecoverReplies, recover_after, recover_pending, recover_request_at, recover_next, roll_to}
 use Rattle.sdb_phases.specs.RecoverLaws.{RecoverInvariant, learned_committed, learned_aborted, found_expired, was_committed_at, observes_committed_at}
 use Rattle.sdb_phases.proofs.RecoverRows.{by_rows}
-use Rattle.sdb_phases.proofs.Stands.{row_says, left}
+use Rattle.sdb_phases.proofs.CommitInvariants.{row_says, left}
 
 -- The list of what was heard, seen from outside: what was learned by it.
 pub record Knows (rec : Record) (meta : Meta) (past : List Received) (v : Result Decided (List ℕ)) : Type 0 where
@@ -114,13 +114,13 @@ step rec meta past small n moment =
       no_memory = λ d r e s gets. let few : length past ≤ 3 = ended_few rec meta past d r s gets in omega arith;
     })
 
-pub recover_stands : (rec : Record) (meta : Meta) (past : List Received) → meta.id.0 < 2 ^ 128 → AreRecoverReplies rec meta past → RecoverInvariant rec meta past (recover_after rec meta past)
-recover_stands rec meta [] small correct = refl
-recover_stands rec meta (c ∷ past) small (correct, gets, moment) =
-    step rec meta past small c.now moment (recover_after rec meta past) c.reply refl (recover_stands rec meta past small correct) gets
+pub recover_invariant : (rec : Record) (meta : Meta) (past : List Received) → meta.id.0 < 2 ^ 128 → AreRecoverReplies rec meta past → RecoverInvariant rec meta past (recover_after rec meta past)
+recover_invariant rec meta [] small correct = refl
+recover_invariant rec meta (c ∷ past) small (correct, gets, moment) =
+    step rec meta past small c.now moment (recover_after rec meta past) c.reply refl (recover_invariant rec meta past small correct) gets
 
-stands_at : (rec : Record) (meta : Meta) (past : List Received) (d : RecoverPhase) → meta.id.0 < 2 ^ 128 → AreRecoverReplies rec meta past → recover_after rec meta past ≡ d → RecoverInvariant rec meta past d
-stands_at rec meta past d small correct e = subst (RecoverInvariant rec meta past) e (recover_stands rec meta past small correct)
+lies_at : (rec : Record) (meta : Meta) (past : List Received) (d : RecoverPhase) → meta.id.0 < 2 ^ 128 → AreRecoverReplies rec meta past → recover_after rec meta past ≡ d → RecoverInvariant rec meta past d
+lies_at rec meta past d small correct e = subst (RecoverInvariant rec meta past) e (recover_invariant rec meta past small correct)
 
 few_calls : (rec : Record) (meta : Meta) (past : List Received) (d : RecoverPhase) → RecoverInvariant rec meta past d → length past ≤ 4
 few_calls rec meta past phase.Look s = omega arith
@@ -131,16 +131,16 @@ few_calls rec meta past phase.Back (few, some, learned) = omega arith
 few_calls rec meta past phase.Ended s = s
 
 pub recovers_in_four : (rec : Record) (meta : Meta) (past : List Received) → meta.id.0 < 2 ^ 128 → AreRecoverReplies rec meta past → length past ≤ 4
-recovers_in_four rec meta past small correct = few_calls rec meta past (recover_after rec meta past) (recover_stands rec meta past small correct)
+recovers_in_four rec meta past small correct = few_calls rec meta past (recover_after rec meta past) (recover_invariant rec meta past small correct)
 
 pub aborts_expired : (rec : Record) (meta : Meta) (past : List Received) (now : ℤ) → meta.id.0 < 2 ^ 128 → AreRecoverReplies rec meta past → recover_after rec meta past ≡ phase.Abort now → (length past ≡ 1) × (found_expired meta past ≡ true)
 aborts_expired rec meta past now small correct e =
-    let (calls, expired, here, valid) = stands_at rec meta past (phase.Abort now) small correct e in (calls, expired)
+    let (calls, expired, here, valid) = lies_at rec meta past (phase.Abort now) small correct e in (calls, expired)
 
 pub forwards_committed : (rec : Record) (meta : Meta) (past : List Received) (at : ℤ) → meta.id.0 < 2 ^ 128 → AreRecoverReplies rec meta past → recover_after rec meta past ≡ phase.Forward at → learned_committed rec meta at past ≡ true
 forwards_committed rec meta past at small correct e =
-    let (few, some, learned) = stands_at rec meta past (phase.Forward at) small correct e in learned
+    let (few, some, learned) = lies_at rec meta past (phase.Forward at) small correct e in learned
 
 pub backs_aborted : (rec : Record) (meta : Meta) (past : List Received) → meta.id.0 < 2 ^ 128 → AreRecoverReplies rec meta past → recover_after rec meta past ≡ phase.Back → learned_aborted rec meta past ≡ true
 backs_aborted rec meta past small correct e =
-    let (few, some, learned) = stands_at rec meta past phase.Back small correct e in learned
+    let (few, some, learned) = lies_at rec meta past phase.Back small correct e in learned

@@ -136,8 +136,8 @@ sweeps_txn None = refl
 sweeps_txn (Some t) = sweeps_doing t t.doing
 
 -- of the others the gate says so
-none_sweeps : (gate : Gate) (states : ℕ → ClientState) (c : ℕ) → IsReady states c → IsGated gate states c → gate.vacuum_runs ≡ false → NoneRunVacuum (system_of states)
-none_sweeps gate states c ready gated shut e =
+none_run_vacuum : (gate : Gate) (states : ℕ → ClientState) (c : ℕ) → IsReady states c → IsGated gate states c → gate.vacuum_runs ≡ false → NoneRunVacuum (system_of states)
+none_run_vacuum gate states c ready gated shut e =
     by_test ((states e).stopped) (λ t. rw t refl)
     (λ t. by_test (e == c)
     (λ s. rw (t, ap (λ (k : ℕ). (states k).client.vacuum) (eqb-true e c s) ∙ ready.idle.free) (sweeps_txn (states e).client.txn))
@@ -170,7 +170,7 @@ module _ (catalog : List Table) (fit : Tables → Bool) (events : List Event) (s
   told_begun gate text gated shut none reads few =
       let id_same : Open (next_id (system_of states) c) nothing ≡ abstract_txn (client_begun now (client_next now)).txn = ap (λ (n : ℕ). Open (id_of n (now.begun + 1)) nothing) (sym ready.number) in
       let e : List Event = events ++ event.Take c text (Some answer.Done) ∷ [] in
-      let begun_so = going_begins catalog fit events (system_of states) (doing_of states) g c text (at_rest catalog fit events states g c ready none) (record { reads = (begin_read text).1 reads; client = ready.small; ordinal = few }) (none_sweeps gate states c ready gated shut) in
+      let begun_so = going_begins catalog fit events (system_of states) (doing_of states) g c text (at_rest catalog fit events states g c ready none) (record { reads = (begin_read text).1 reads; client = ready.small; ordinal = few }) (none_run_vacuum gate states c ready gated shut) in
       placed catalog fit states c (client_begun now (client_next now)) e (with_begun (system_of states) c (abstract_txn (client_begun now (client_next now)).txn)) (at (doing_of states) c None)
       (subst (λ (x : ClientAt). RunInvariant catalog fit e (with_begun (system_of states) c x) (at (doing_of states) c None)) id_same begun_so)
       (mapped_at abstract_client states c (hand_of (client_begun now (client_next now)))) (mapped_at (λ (h : ClientState). h.client.begun) states c (hand_of (client_begun now (client_next now)))) (mapped_at (λ (h : ClientState). runs h.client) states c (hand_of (client_begun now (client_next now))))

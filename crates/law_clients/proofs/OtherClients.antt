@@ -15,7 +15,7 @@ use Rattle.law_clients.specs.Filed.{number}
 use Rattle.law_clients.specs.Left.{Execution}
 use Rattle.law_clients.specs.Story.{Closed, Finished, Opened, Rest, txn_ended_at}
 use Rattle.law_clients.specs.History.{IsApart, IsOpened, OthersUnchanged, HistoryInvariant, ClientHistory, HistoryStep, begun_in, with_history}
-use Rattle.law_clients.proofs.Tellings.{SameOf, apart_at, opened_counts, others_apart, within}
+use Rattle.law_clients.proofs.Histories.{SameOf, apart_at, opened_counts, others_apart, within}
 use Rattle.law_clients.proofs.HistoryTurns.{stories_turn}
 use Rattle.law_clients.specs.Invariant.{ClientInvariant, EndedOk, IsOpenOf, InsideOk, RunInvariant, OpenedOk, RanOk}
 use Rattle.law_clients.specs.ReadSets.{ReadSetsOfClient}

@@ -9,7 +9,7 @@ use Rattle.sdb_model.specs.declared.script.Move.TheVariants as move
 use Rattle.sdb_model.specs.Follows.{AreOfMoves, AreStepsOf, Follows, IsActed, IsCallOf, IsHowOfDiscard, IsHowOfLose, IsHowOfStep, IsOfMove, IsRest, IsStep, IsTakeOf, has_work, is_pending, takes_of, is_take_of, texts_of}
 use Rattle.sdb_model.specs.Transactions.{Executed, statements_by, statements_after, with_answer}
 use Rattle.sdb_types.proofs.Public.{assoc, by_test, eq_of, map_last, none_some, some_is}
-use Rattle.law_clients.proofs.Public.{said_more}
+use Rattle.law_clients.proofs.Public.{executed_more}
 
 abbrev pub taken_texts : List Executed → List (List ℕ)
 taken_texts = map (λ s. s.text)
@@ -75,7 +75,7 @@ event_more clients c past n (event.Idle d) may h = h ∙ ap (λ (m : ℕ). take 
 
 one_more : (clients : List ScriptClient) (past : List Event) (e : Event) → MayCome clients past e → AreTaken clients past → AreTaken clients (past ++ e ∷ [])
 one_more clients past e may h c =
-    ap taken_texts (said_more c past e)
+    ap taken_texts (executed_more c past e)
     ∙ event_more clients c past (1 + length past) e may (h c)
     ∙ ap (λ (m : ℕ). take m (texts_of clients c)) (sym (taken_more c past e))
 

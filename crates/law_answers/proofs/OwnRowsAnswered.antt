@@ -15,8 +15,8 @@ use Rattle.law_answers.specs.Invariant.{IsAnswered, begun_in, open_after}
 use Rattle.law_answers.proofs.Calls.{calls_stay}
 use Rattle.law_answers.proofs.CountsNotes.{last_or, open_only}
 use Rattle.law_answers.proofs.Lists.{since_more, since_none}
-use Rattle.law_answers.proofs.Noting.{each_left, each_middle, rest_all, since_all}
-use Rattle.law_answers.proofs.Shows.{effective_by, sees_same, sees_still, tells_none, tells_still}
+use Rattle.law_answers.proofs.ReadSets.{each_left, each_middle, rest_all, since_all}
+use Rattle.law_answers.proofs.OwnRows.{effective_by, sees_same, sees_still, tells_none, tells_still}
 
 ---- statements that were answered
 
@@ -88,7 +88,7 @@ module _ (catalog : List Table) (c : ℕ) (events : List Event) (e : Event) (ans
   module _ (h : ClientAt) (k : ViewBy catalog events c answered h) where
     -- where the client goes on with what it saw
     pub shows_further : (d : ClientAt) → (ViewBy catalog events c answered h → IfSome d.txn (IsViewOf catalog E c (rest_of (from_begin d.begun answered)))) → ViewBy catalog E c answered d
-    shows_further d sees = record { told_own = own_still catalog events e c answered all k.told_own; sees_own = sees k }
+    shows_further d sees = record { given_own = own_still catalog events e c answered all k.given_own; sees_own = sees k }
 
     pub shows_stay : ViewBy catalog E c answered h
     shows_stay = shows_further h (λ x. showing_stays catalog events e c h.begun answered h.txn all x.sees_own)
@@ -96,7 +96,7 @@ module _ (catalog : List Table) (c : ℕ) (events : List Event) (e : Event) (ans
     -- where a statement is answered
     pub shows_end : ArePaired false answered → (z : Executed) (b : Answer) (d : ClientAt) → z.answer ≡ Some b → ShowsNext catalog E c answered z b d → ViewBy catalog E c (answered ++ z ∷ []) d
     shows_end pairs z b d is next = record {
-      told_own = own_more catalog E c answered z pairs (own_still catalog events e c answered all k.told_own) (λ a has opened. subst (GivesOwn catalog E c (rest_of (from_begin (begun_in answered) answered)) z) (some_is b a (sym is ∙ has)) (next.0 opened));
+      given_own = own_more catalog E c answered z pairs (own_still catalog events e c answered all k.given_own) (λ a has opened. subst (GivesOwn catalog E c (rest_of (from_begin (begun_in answered) answered)) z) (some_is b a (sym is ∙ has)) (next.0 opened));
       sees_own = next.1;
     }
 

@@ -30,8 +30,8 @@ numbers_more n (x ∷ es) e = ap (λ r. (n, x) ∷ r) (numbers_more (n + 1) es e
     plus : (n m : ℕ) → (n + 1) + m ≡ n + suc m
     plus n m = omega arith
 
-pub said_more : (c : ℕ) (es : List Event) (e : Event) → statements_by c (es ++ e ∷ []) ≡ statements_after c (statements_by c es) (1 + length es, e)
-said_more c es e = ap (fold (statements_after c) []) (numbers_more 1 es e) ∙ fold-append (statements_after c) [] (numbered es) ((1 + length es, e) ∷ [])
+pub executed_more : (c : ℕ) (es : List Event) (e : Event) → statements_by c (es ++ e ∷ []) ≡ statements_after c (statements_by c es) (1 + length es, e)
+executed_more c es e = ap (fold (statements_after c) []) (numbers_more 1 es e) ∙ fold-append (statements_after c) [] (numbered es) ((1 + length es, e) ∷ [])
 
 counted : (h : ProtocolState) (r : Action) → IsCounted r → (state_after_event h r).now ≡ h.now + 1
 counted h r c = grind (arith, nat_tests)
@@ -49,7 +49,7 @@ pub record SameOf (t : ℕ) (h v : ProtocolState) : Type 0 where
   pub begun : v.begun t ≡ h.begun t
   pub owner : v.owner t ≡ h.owner t
   pub accepted : v.accepted t ≡ h.accepted t
-  pub taken_at : v.taken_at t ≡ h.taken_at t
+  pub accepted_at : v.accepted_at t ≡ h.accepted_at t
 
 same_begun : (h : ProtocolState) (r : Action) (t : ℕ) → IsNotOf t r → (state_after_event h r).begun t ≡ h.begun t
 same_begun h r t n = grind (arith, nat_tests)
@@ -60,20 +60,20 @@ same_owner h r t n = grind (arith, nat_tests)
 same_taken : (h : ProtocolState) (r : Action) (t : ℕ) → IsNotOf t r → (state_after_event h r).accepted t ≡ h.accepted t
 same_taken h r t n = grind (arith, nat_tests)
 
-same_taken_at : (h : ProtocolState) (r : Action) (t : ℕ) → IsNotOf t r → (state_after_event h r).taken_at t ≡ h.taken_at t
+same_taken_at : (h : ProtocolState) (r : Action) (t : ℕ) → IsNotOf t r → (state_after_event h r).accepted_at t ≡ h.accepted_at t
 same_taken_at h r t n = grind (arith, nat_tests)
 
 pub same_of : (past : List Labelled) (q : Labelled) (t : ℕ) → IsNotOf t q.action → SameOf t (protocol_state past) (protocol_state (q ∷ past))
 same_of past q t n = by q.ends
   where
     by : (o : Option ℕ) → SameOf t (protocol_state past) (ended (state_after_event (protocol_state past) q.action) o)
-    by None = record { begun = same_begun (protocol_state past) q.action t n; owner = same_owner (protocol_state past) q.action t n; accepted = same_taken (protocol_state past) q.action t n; taken_at = same_taken_at (protocol_state past) q.action t n }
-    by (Some u) = record { begun = same_begun (protocol_state past) q.action t n; owner = same_owner (protocol_state past) q.action t n; accepted = same_taken (protocol_state past) q.action t n; taken_at = same_taken_at (protocol_state past) q.action t n }
+    by None = record { begun = same_begun (protocol_state past) q.action t n; owner = same_owner (protocol_state past) q.action t n; accepted = same_taken (protocol_state past) q.action t n; accepted_at = same_taken_at (protocol_state past) q.action t n }
+    by (Some u) = record { begun = same_begun (protocol_state past) q.action t n; owner = same_owner (protocol_state past) q.action t n; accepted = same_taken (protocol_state past) q.action t n; accepted_at = same_taken_at (protocol_state past) q.action t n }
 
 pub filed_later : (past : List Labelled) (q : Labelled) (t : ℕ) (f : Finished) → SameOf t (protocol_state past) (protocol_state (q ∷ past)) → IsFiledAt past t f → IsFiledAt (q ∷ past) t f
 filed_later past q t f s filed = record {
   begun = s.begun ∙ filed.begun;
-  accepted = λ h. let x = filed.accepted (sym s.accepted ∙ h) in (x.0, x.1 ∙ sym s.taken_at);
+  accepted = λ h. let x = filed.accepted (sym s.accepted ∙ h) in (x.0, x.1 ∙ sym s.accepted_at);
   answered = λ a. inr (filed.answered a);
   denied = λ a statements_by denial h. inr (filed.denied a statements_by denial (sym s.accepted ∙ h));
   unknown = filed.unknown;
@@ -99,7 +99,7 @@ apart_at events past sys c x q k story apart l = let h = story.alive k l in same
 
 pub open_later : (past : List Labelled) (q : Labelled) (c : ℕ) (x : ClientHistory) (r : Rest) → (IsOpened r → SameOf (number c (length x.whole)) (protocol_state past) (protocol_state (q ∷ past))) → OpenFiled past c x r → OpenFiled (q ∷ past) c x r
 open_later past q c x (Closed gap) s ok = tt
-open_later past q c x (Opened gap b body) s ok = let same = s tt in (same.begun ∙ ok.0, λ h. let w = ok.1 (sym same.accepted ∙ h) in (w.0, w.1, w.2, w.3 ∙ sym same.taken_at))
+open_later past q c x (Opened gap b body) s ok = let same = s tt in (same.begun ∙ ok.0, λ h. let w = ok.1 (sym same.accepted ∙ h) in (w.0, w.1, w.2, w.3 ∙ sym same.accepted_at))
 
 pub opened_counts : (m : ℕ) (r : Rest) → IsOpened r → m < m + begun_in r
 opened_counts m (Closed gap) o = absurd o
@@ -141,7 +141,7 @@ others_apart plan past c d q apart by may t owner begun = by_role q.action (fore
 
 -- and says nothing of it
 pub others_silent : (events : List Event) (c d : ℕ) (e : Event) → d ≢ c → IsBy d e → statements_by c (events ++ e ∷ []) ≡ statements_by c events
-others_silent events c d e apart by = said_more c events e ∙ silent e by
+others_silent events c d e apart by = executed_more c events e ∙ silent e by
   where
     other : (b : ℕ) → b ≡ d → (b == c) ≡ false
     other b e = subst (λ y. (y == c) ≡ false) (sym e) (differ d c apart)

@@ -36,8 +36,8 @@ use Rattle.law_answers.specs.Views.{HasBefore, SeesOwn}
 use Rattle.law_answers.proofs.Ends.{first_in}
 use Rattle.law_answers.proofs.Moving.{scan_shows}
 use Rattle.law_answers.proofs.Settling.{found_meant, got_image}
-use Rattle.law_answers.proofs.Shows.{has_before, has_shown}
-use Rattle.law_answers.proofs.Unfit.{IsReadAt, at_note, found_new, new_read, noted_now, same_writes}
+use Rattle.law_answers.proofs.OwnRows.{has_before, has_shown}
+use Rattle.law_answers.proofs.Unfit.{IsReadAt, at_note, found_new, new_read, rows_read_now, same_writes}
 
 ---- what a call found
 
@@ -107,7 +107,7 @@ new_inside calls (access.Scan span) images h q o e = by (record_among images q) 
 
 -- by what was noted at the key, and what was found there now
 row_now : (t : TxnAt) (a : Access) (images : List Record) (q : Key) → row_seen (with_rows_read t a images).seen.read_set (with_rows_read t a images).seen.writes q ≡ row_with (write_among t.seen.writes q) (at_note (or_else (value_at t.seen.read_set q) (found_new a images q)))
-row_now t a images q = ap (λ ws. row_with (write_among ws q) (base_at (with_rows_read t a images).seen.read_set q)) (same_writes t a images) ∙ ap (λ x. row_with (write_among t.seen.writes q) (at_note x)) (noted_now t a images q)
+row_now t a images q = ap (λ ws. row_with (write_among ws q) (base_at (with_rows_read t a images).seen.read_set q)) (same_writes t a images) ∙ ap (λ x. row_with (write_among t.seen.writes q) (at_note x)) (rows_read_now t a images q)
 
 -- a key that wasn't read isn't written
 pub unwritten : (s : Seen) (q : Key) → WereRead s.read_set s.writes → is_key_read s.read_set q ≡ false → write_among s.writes q ≡ None
@@ -119,7 +119,7 @@ unwritten s q kept f = by (write_among s.writes q) refl
 
 -- it had read what it wrote
 pub kept_now : (t : TxnAt) (a : Access) (images : List Record) → WereRead t.seen.read_set t.seen.writes → WereRead (with_rows_read t a images).seen.read_set (with_rows_read t a images).seen.writes
-kept_now t a images kept q written = some (value_at t.seen.read_set q) (kept q (subst (λ ws. is_written ws q ≡ true) (same_writes t a images) written)) (noted_now t a images q)
+kept_now t a images kept q written = some (value_at t.seen.read_set q) (kept q (subst (λ ws. is_written ws q ≡ true) (same_writes t a images) written)) (rows_read_now t a images q)
   where
     some : (x : Option (Option Record)) → is_some x ≡ true → value_at (with_rows_read t a images).seen.read_set q ≡ or_else x (found_new a images q) → is_key_read (with_rows_read t a images).seen.read_set q ≡ true
     some None h e = clash (sym h)
@@ -143,4 +143,4 @@ module _ (catalog : List Table) (events : List Event) (c : ℕ) (body : List Exe
       by None (Some o) e f =
           subst Has (sym (row_now t a images key ∙ ap (λ z. row_with (write_among t.seen.writes key) (at_note (or_else z (found_new a images key)))) e ∙ ap (λ z. row_with (write_among t.seen.writes key) (at_note z)) f ∙ ap (λ w. row_with w o) (unwritten t.seen key kept (ap is_some e))))
           (has_shown catalog events c body s key (row_found o) (record { answered = answered; no_vacuum = no_vacuum; table = tables key (new_inside (calls_of events c s) a images h key o f); found = found_by (calls_of events c s) a images h key o f }))
-      by None None e f = clash (sym (sym (ap is_some (noted_now t a images key ∙ ap (λ z. or_else z (found_new a images key)) e ∙ f)) ∙ as_read))
+      by None None e f = clash (sym (sym (ap is_some (rows_read_now t a images key ∙ ap (λ z. or_else z (found_new a images key)) e ∙ f)) ∙ as_read))

@@ -18,7 +18,7 @@ use Rattle.sdb_model.specs.ReadSet.{KeyRead, ReadItem, SpanRead, finds_transacti
 use Rattle.sdb_model.specs.Rows.{Name}
 use Rattle.sdb_model.specs.Transactions.{Executed, client_of, ends, from_begin, ordinal_of, rest_of, statements_inside}
 use Rattle.law_protocol.specs.Spread.{relocated_event, relocated_events}
-use Rattle.law_protocol.proofs.Public.{said_moved}
+use Rattle.law_protocol.proofs.Public.{executed_moved}
 
 ---- calls that are moved to other stores
 
@@ -142,7 +142,7 @@ module _ (at : Name → Name) where
   flat_same f g same ss = λ k. flat_map (λ s. same s k) ss
 
   inside_moved : (events : List Event) (id : TxId) → statements_inside (relocated_events at events) id ≡ statements_inside events id
-  inside_moved events id = ap (λ ss. take_while (λ s. not (ends s)) (rest_of (from_begin (ordinal_of id) ss))) (said_moved at (client_of id) events)
+  inside_moved events id = ap (λ ss. take_while (λ s. not (ends s)) (rest_of (from_begin (ordinal_of id) ss))) (executed_moved at (client_of id) events)
 
   -- What the statements of a transaction noted is the same where calls are moved to other stores.
   pub noted_moved : (events : List Event) (id : TxId) → read_set_of (relocated_events at events) id ≡ read_set_of events id

@@ -329,6 +329,6 @@ module _ (q : Request) (calls : List StoreCall) (m : StoreCall) (now : ℤ) (mom
   stage_shows a (Resolving images rec meta p left) is o h e can = resolved_shows images rec meta left o h.0 (recover_next rec meta p now m.reply) (recovered_shows images rec meta left o h.0 p h.1 e)
   stage_shows a (Ended s) is o h e can = absurd (cc)
 
-pub shows_on : {q : Request} (calls : List StoreCall) (now : ℤ) (moment : is_moment now ≡ true) (a : Access) → q ≡ request_of a → (r : WaitingRead q) → IsOpenAt q calls r.call now moment r.stage → StageObserves q calls r.stage → CanAnswer r.call.request r.call.reply
+pub observes_on : {q : Request} (calls : List StoreCall) (now : ℤ) (moment : is_moment now ≡ true) (a : Access) → q ≡ request_of a → (r : WaitingRead q) → IsOpenAt q calls r.call now moment r.stage → StageObserves q calls r.stage → CanAnswer r.call.request r.call.reply
     → StageObserves q (calls ++ r.call ∷ []) (read_step r.stage now r.call.reply)
-shows_on {q} calls now moment a is r o h can = stage_shows q calls r.call now moment a r.stage is o h r.pending can
+observes_on {q} calls now moment a is r o h can = stage_shows q calls r.call now moment a r.stage is o h r.pending can

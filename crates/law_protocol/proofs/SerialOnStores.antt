@@ -19,15 +19,15 @@ use Rattle.sdb_model.specs.Transactions.{Executed, IsOrder}
 use Rattle.sdb_model.specs.Serial.{AreBodies, AreRead, answers_given, commit_answer, IsSerial, RespectsRealTime, IsRun}
 use Rattle.sdb_model.specs.Form.{script_with_places}
 use Rattle.law_protocol.specs.Spread.{one_store, relocated_events, relocated_outcome, HoldAs, RelocatedRun}
-use Rattle.law_protocol.proofs.Moved.{begun_moved, body_moved, commit_moved, point_moved, said_moved}
+use Rattle.law_protocol.proofs.Moved.{begun_moved, body_moved, commit_moved, point_moved, executed_moved}
 use Rattle.law_protocol.proofs.Followed.{follows_moved}
 use Rattle.sdb_types.proofs.Public.{or_true}
 use Rattle.sdb_model.specs.Tables.{is_table_of_run}
 
 ---- what is there
 
-pub one_standing : (name : Name) (m : Contents) (key : Key) → stored_at [] (one_store name m) key ≡ record_at m key
-one_standing name m key = rw (same_name-itself name) refl
+pub one_stored : (name : Name) (m : Contents) (key : Key) → stored_at [] (one_store name m) key ≡ record_at m key
+one_stored name m key = rw (same_name-itself name) refl
 
 -- Several stores and the one say the same of each key that the run is about, and of each decision.
 record Alike (catalog : List Table) (places : List Place) (closing : List StoreContents) (name : Name) (m : Contents) : Type 0 where
@@ -39,7 +39,7 @@ unfolding coordinator_key_of
 alike catalog places closing name m h = record { agrees = agrees; decides = decides }
   where
     agrees : (key : Key) → is_table_of_run catalog key.table ≡ true → stored_at places closing key ≡ stored_at [] (one_store name m) key
-    agrees key t = h.at key t ∙ sym (one_standing name m key)
+    agrees key t = h.at key t ∙ sym (one_stored name m key)
 
     decides : (id : TxId) → decision_at places closing id ≡ decision_at [] (one_store name m) id
     decides id = ap (option_and_then (λ (row : Record). result_ok (decision_in row))) (agrees (coordinator_key_of id) (or_true (is_some (find_table catalog (coordinator_key_of id).table))))
@@ -105,7 +105,7 @@ told_moved at catalog places closing name m events order tables a t = record {
   images = λ key. t.images key ∙ sym (if_same (is_some (find_table catalog key.table)) (row_at places closing key) (row_at [] (one_store name m) key) (λ e. row_same catalog places closing name m a key (or_first _ _ e)));
   committed = λ id small e. subst Says (sym (a.decides id)) (t.committed id small (sym (answer_moved at events id) ∙ e));
   owned = λ client s among answered.
-      let o = t.owned client s (subst (λ (ss : List Executed). Contains ss s) (said_moved at client events) among) answered in
+      let o = t.owned client s (subst (λ (ss : List Executed). Contains ss s) (executed_moved at client events) among) answered in
       record { id = o.id; fits = o.fits; owner = o.owner; commit = commit_moved at events o.id ∙ o.commit; recorded = subst Says (sym (a.decides o.id)) o.recorded };
   known = λ id small r. subst (Fates id) (sym (answer_moved at events id)) (t.known id small (subst Says (a.decides id) r));
 }
@@ -115,7 +115,7 @@ told_moved at catalog places closing name m events order tables a t = record {
 time_moved : (at : Name → Name) (catalog : List Table) (places : List Place) (closing : List StoreContents) (name : Name) (m : Contents) (events : List Event) (order : List Point) → Alike catalog places closing name m
     → RespectsRealTime [] events (one_store name m) order → RespectsRealTime places (relocated_events at events) closing order
 time_moved at catalog places closing name m events order a k client s among answered late large recorded by n ended began behind =
-    let e = k client s (subst (λ (ss : List Executed). Contains ss s) (said_moved at client events) among) answered late large (subst Says (a.decides late) recorded) by n ended (sym (begun_moved at events late) ∙ began) behind in
+    let e = k client s (subst (λ (ss : List Executed). Contains ss s) (executed_moved at client events) among) answered late large (subst Says (a.decides late) recorded) by n ended (sym (begun_moved at events late) ∙ began) behind in
     (e.0, commit_moved at events e.0 ∙ e.1, e.2)
 
 ---- the whole

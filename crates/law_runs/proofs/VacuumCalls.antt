@@ -21,7 +21,7 @@ use Rattle.sdb_phases.specs.RecoverCalls.{calls_left}
 use Rattle.law_answers.proofs.Public.{IsDataTable, calls_more, data_read, next_light, opens_first, opens_more, opens_one, row_light}
 use Rattle.sdb_phases.proofs.Public.{IsNearer, recover_nearer}
 use Rattle.law_runs.specs.Vacuums.{IsVacuumMost, is_committed_tombstone, span_asked, tombstones_found, tombstones_in}
-use Rattle.law_runs.proofs.Sweeping.{firm_dead}
+use Rattle.law_runs.proofs.Vacuuming.{firm_dead}
 
 -- how many of some records are committed tombstones
 abbrev dead : List Record → ℕ

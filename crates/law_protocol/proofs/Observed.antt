@@ -10,7 +10,7 @@ use Rattle.sdb_types.specs.declared.record.Request.TheVariants as ask
 use Rattle.sdb_types.specs.declared.record.Reply.TheVariants as reply
 use Rattle.sdb_types.specs.Order.{key_cmp, table_cmp, same_key}
 use Rattle.sdb_types.specs.Contents.{Contents, record_at, record_of, in_span, is_partition, rows_among, rows_in, holds, put_reply, reply_to, after, record_among}
-use Rattle.sdb_types.proofs.Public.{and_first, record_at-key, same_key_tells, table_exact}
+use Rattle.sdb_types.proofs.Public.{and_first, record_at-key, same_key_decides, table_exact}
 use Rattle.sdb_model.specs.declared.event.Event.TheVariants as event
 use Rattle.sdb_model.specs.Events.{StoreContents, Effect, stored_at, table_asked}
 use Rattle.law_protocol.specs.Lawful.{InReply, InEvent}
@@ -29,7 +29,7 @@ span_table span k h = ap (λ t. t.ns) (sym (table_exact span.table k.table (equa
 row_found : (span : Span) (k : Key) (es : List (Key × List Pair)) → in_span span k ≡ true → record_among (rows_among span es) k ≡ option_map (λ columns. record_of (k, columns)) (map_of.find key_cmp k es)
 unfolding same_key
 row_found span k [] h = refl
-row_found span k (e ∷ es) h = by (row_found span k es h) (same_key_tells k e.0) (in_span span e.0) refl
+row_found span k (e ∷ es) h = by (row_found span k es h) (same_key_decides k e.0) (in_span span e.0) refl
   where
     by : record_among (rows_among span es) k ≡ option_map (λ columns. record_of (k, columns)) (map_of.find key_cmp k es)
         → ((same_key k e.0 ≡ true) × (k ≡ e.0)) ⊎ ((same_key k e.0 ≡ false) × (k ≢ e.0))
@@ -89,18 +89,18 @@ in_unmet c o x h = by (holds c o) h
     by true h = absurd h
     by false h = unmet o h
 
-shown_by : (places : List Place) (q : Request) (r : Reply) (before now : List StoreContents) (a : AtCall places q r before now) (x : Record) → InReply (reply_to q a.held) x → stored_at places before x.key ≡ Some x
-shown_by places (ask.Get key) r before now a x h = found_stood places (ask.Get key) r before now a key x refl (in_found (record_at a.held key) x h)
-shown_by places (ask.Scan span) r before now a x h =
+observed_in : (places : List Place) (q : Request) (r : Reply) (before now : List StoreContents) (a : AtCall places q r before now) (x : Record) → InReply (reply_to q a.held) x → stored_at places before x.key ≡ Some x
+observed_in places (ask.Get key) r before now a x h = found_stood places (ask.Get key) r before now a key x refl (in_found (record_at a.held key) x h)
+observed_in places (ask.Scan span) r before now a x h =
     let within = row_within span x.key x (entries a.held) h in
     (a.here x.key (span_table span x.key within)).0 ∙ sym (row_there span x.key a.held within) ∙ h
-shown_by places (ask.PutIf rec c) r before now a x h = found_stood places (ask.PutIf rec c) r before now a rec.key x refl (in_unmet c (record_at a.held rec.key) x h)
-shown_by places (ask.DeleteIf key c) r before now a x h = found_stood places (ask.DeleteIf key c) r before now a key x refl (in_unmet c (record_at a.held key) x h)
+observed_in places (ask.PutIf rec c) r before now a x h = found_stood places (ask.PutIf rec c) r before now a rec.key x refl (in_unmet c (record_at a.held rec.key) x h)
+observed_in places (ask.DeleteIf key c) r before now a x h = found_stood places (ask.DeleteIf key c) r before now a key x refl (in_unmet c (record_at a.held key) x h)
 
 shown_call : (places : List Place) (q : Request) (r : Reply) (before now : List StoreContents) → AtCall places q r before now → (x : Record) → InReply r x → stored_at places before x.key ≡ Some x
 shown_call places q r before now a x h = elim a.moved [
   | inl m ↦ elim m.1 [
-    | inl e ↦ shown_by places q r before now a x (subst (λ y. InReply y x) e h)
+    | inl e ↦ observed_in places q r before now a x (subst (λ y. InReply y x) e h)
     | inr e ↦ absurd (subst (λ y. InReply y x) e h)
   ]
   | inr m ↦ elim m.1 [

@@ -14,9 +14,9 @@ use Rattle.law_clients.specs.States.{ClientState}
 use Rattle.law_clients.specs.History.{waiting_of}
 use Rattle.law_answers.specs.Views.{AllGiveOwn, HasBefore, RowsAreOwn, GivesOwn, WasRead}
 use Rattle.law_answers.specs.Invariant.{CauseInvariant, IsWaiting, Knows}
-use Rattle.law_answers.proofs.Noting.{each_left, each_middle, since_all}
-use Rattle.law_answers.proofs.Shows.{each_changing, first_so}
-use Rattle.law_answers.proofs.ShowsTold.{own_waits}
+use Rattle.law_answers.proofs.ReadSets.{each_left, each_middle, since_all}
+use Rattle.law_answers.proofs.OwnRows.{each_changing, first_so}
+use Rattle.law_answers.proofs.OwnRowsAnswered.{own_waits}
 
 ---- the statements of a transaction
 
@@ -94,8 +94,8 @@ module _ (catalog : List Table) (events : List Event) (now : ℤ) (states : ℕ 
   all_own = subst (AllGiveOwn catalog events c) (sym k.same) (by k.waiting k.waits)
     where
       by : (o : Option Executed) → IfSome o (IsWaiting catalog events c (is_some (states c).client.vacuum)) → AllGiveOwn catalog events c (k.entries ++ waiting_of o)
-      by None w = subst (AllGiveOwn catalog events c) (sym (append-nil k.entries)) k.shows.told_own
-      by (Some w) waits = own_waits catalog events c k.entries w waits.unanswered k.counted.paired k.shows.told_own
+      by None w = subst (AllGiveOwn catalog events c) (sym (append-nil k.entries)) k.shows.given_own
+      by (Some w) waits = own_waits catalog events c k.entries w waits.unanswered k.counted.paired k.shows.given_own
 
   all_said : AllByRecursion (Contains (statements_by c events)) (statements_by c events)
   all_said = recursion_from_All (Contains (statements_by c events)) (statements_by c events) (All-contains_itself (statements_by c events))

@@ -12,7 +12,7 @@ use Rattle.sdb_phases.specs.Recover.{Received, recover_next}
 use Rattle.sdb_phases.specs.Steps.{CanGet}
 use Rattle.sdb_txn.specs.Read.{Kind, Firm, Open, Bad, Resolving as Reads, kind_of, resolved as read_resolved}
 use Rattle.sdb_txn.specs.Valid.{IsValid as IsReadFine}
-use Rattle.sdb_txn.proofs.Public.{firm_by, open_by, open_unresolved, step_fine}
+use Rattle.sdb_txn.proofs.Public.{firm_by, open_by, open_unresolved, step_valid}
 use Rattle.sdb_vacuum.specs.Vacuum.{First, Nothing, Tombstone, Unresolved, Malformed, VacuumStage, Scanning, Resolving, Removing, Over, answered, first_of, first_one, with_call, next_of_row, next_table, pending_at, removal_answered, resolved, spans_of, step_at, tombstone_or}
 use Rattle.sdb_vacuum.specs.Valid.{IsValid}
 use Rattle.sdb_vacuum.specs.Calls.{VacuumReplies, vacuum_after}
@@ -97,7 +97,7 @@ removal_fine ss n left reply.NoMemory = tt
 pub step_keeps : (ss : List Span) (n : ℕ) (s : VacuumStage) (now : ℤ) (r : Reply) → IsValid s → CanGet (pending_at s) r → IsValid (step_at ss n s now r).0.stage
 step_keeps ss n (Scanning span) now r f h = answered_fine ss n r
 step_keeps ss n (Resolving rec meta p left) now r f h =
-    resolved_fine ss n rec meta left (recover_next rec meta p now r) f.0 f.1 (step_fine (ask.Get rec.key) (Reads [] rec meta p []) now r (tt, refl, f.0, f.1, f.2) h)
+    resolved_fine ss n rec meta left (recover_next rec meta p now r) f.0 f.1 (step_valid (ask.Get rec.key) (Reads [] rec meta p []) now r (tt, refl, f.0, f.1, f.2) h)
 step_keeps ss n (Removing b left) now r f h = removal_fine ss n left r
 step_keeps ss n Over now r f h = absurd h
 

@@ -16,7 +16,7 @@ use Rattle.law_protocol.specs.Lawful.{Labelled, id}
 use Rattle.law_protocol.specs.Plan.{Plan, written}
 use Rattle.law_protocol.specs.Records.{record_left_by, record_prepared_by, record_for, write_there}
 use Rattle.law_protocol.specs.Trace.{closing, history}
-use Rattle.law_protocol.proofs.Public.{apart_from, at_cut, cut, early_run, IsPlanned, taken_fits, took_is_taken, Whole, whole_of, writer_taken, writes_it}
+use Rattle.law_protocol.proofs.Public.{apart_from, at_cut, cut, early_run, IsPlanned, accepted_fits, took_is_accepted, Whole, whole_of, writer_accepted, writes_it}
 use Rattle.law_runs.specs.Points.{AreKnown}
 use Rattle.law_runs.proofs.Others.{only_rows}
 use Rattle.law_runs.proofs.Runs.{ByLaws}
@@ -62,17 +62,17 @@ taken_held plan places w past store_contents i k r outside at = by (w.rows k) re
     by None e h = absurd (cc)
     by (Some (Final t)) e h =
         let writer = i.all.one.firm k t e in
-        let accepted = writer_taken plan w k t i.all.one.accepted writer in
-        subst (λ x. is_transactional x ≡ true) (some_is (record_left_by plan t k) r h) (firm_taken plan t k (i.knows.planned t accepted) (taken_fits w t i.all.one.begun i.knows.fits accepted) writer.1)
+        let accepted = writer_accepted plan w k t i.all.one.accepted writer in
+        subst (λ x. is_transactional x ≡ true) (some_is (record_left_by plan t k) r h) (firm_taken plan t k (i.knows.planned t accepted) (accepted_fits w t i.all.one.begun i.knows.fits accepted) writer.1)
     by (Some (Held t)) e h =
         let took_effect = i.all.one.held k t e in
-        let accepted = took_is_taken w t k i.all.one.accepted took_effect in
+        let accepted = took_is_accepted w t k i.all.one.accepted took_effect in
         let asked = ((i.all.one.took_effect t k).0 took_effect).0 in
-        subst (λ x. is_transactional x ≡ true) (some_is (record_prepared_by plan t k) r h) (held_taken (record_prepared_by plan t k) (held_unresolved plan t k (i.knows.planned t accepted) (taken_fits w t i.all.one.begun i.knows.fits accepted) (i.all.one.asked t k asked)))
+        subst (λ x. is_transactional x ≡ true) (some_is (record_prepared_by plan t k) r h) (held_taken (record_prepared_by plan t k) (held_unresolved plan t k (i.knows.planned t accepted) (accepted_fits w t i.all.one.begun i.knows.fits accepted) (i.all.one.asked t k asked)))
 
 -- also at each moment before
-pub taken_at : (plan : ℕ → Plan) (places : List Place) (opening : List StoreContents) (labelled : List Labelled) (moments : List (List StoreContents)) (catalog : List Table) → IsRunOf plan places opening (newest_first labelled) (newest_first moments) → find_table catalog coordinator_table ≡ None → AreTransactional catalog places opening moments
-taken_at plan places opening labelled moments catalog run none n key r low table at =
+pub accepted_at : (plan : ℕ → Plan) (places : List Place) (opening : List StoreContents) (labelled : List Labelled) (moments : List (List StoreContents)) (catalog : List Table) → IsRunOf plan places opening (newest_first labelled) (newest_first moments) → find_table catalog coordinator_table ≡ None → AreTransactional catalog places opening moments
+accepted_at plan places opening labelled moments catalog run none n key r low table at =
     let c = cut plan places opening labelled moments n run low in
     let first = early_run plan places opening (take n labelled) (drop n labelled) (take n moments) (drop n moments) c.same c.whole in
     taken_held plan places (history plan places opening (newest_first (take n labelled)) (newest_first (take n moments))) (newest_first (take n labelled)) (closing opening (newest_first (take n moments)))

@@ -26,7 +26,7 @@ use Rattle.sdb_record.proofs.PreparedLaws.{base-short}
 use Rattle.sdb_record.proofs.IdLemmas.{id_of_text-id_text}
 use Rattle.sdb_record.proofs.ColumnLaws.{not_before, columns-full, columns-rest}
 use Rattle.sdb_record.proofs.Settings.{none-with_columns, misses, all-with_columns, has_both, no_before}
-use Rattle.sdb_record.proofs.Fine.{Says, Fine, accepted, valid-committed, checked-valid, checked_part-valid, committed-state, ok-of, none-make}
+use Rattle.sdb_record.proofs.Checked.{Says, Fine, accepted, valid-committed, checked-valid, checked_part-valid, committed-state, ok-of, none-make}
 use Rattle.sdb_record.proofs.RollLaws.{any-none, before_part-any, refuse_before}
 use Rattle.sdb_record.proofs.WriteLaws.{Fitting, fitting, with_base, base-kept, no-column, marked, marked-id, marked-state, marked-version, marked-time, marked-other, marked-before, marked-in-order, all-user, kept-user}
 
