@@ -197,7 +197,7 @@ module _ (catalog : List Table) (events : List Event) (c : ℕ) (h d : ClientAt)
           work = p;
           takes = record {
             commit = subst (IsCommitOf (E (Some b)) c (executed_with_answer events x b)) (sym z.is.same)
-                (commit_is (E (Some b)) c h.begun k.entries (executed_with_answer events x b) z.t k.small (call_executed c events store q how r b k.entries x answered) z.is.text (ends_commit (executed_with_answer events x b) z.is.text) z.since);
+                (commit_is (E (Some b)) (executed_with_answer events x b) k.small (call_executed c events (made_at events store q how r) b k.entries x answered) z.is.text (ends_commit (executed_with_answer events x b) z.is.text) z.since);
             moment = same_clock (Some b);
           };
           outcome = end.0;

@@ -20,24 +20,16 @@ use Rattle.sdb_client.specs.Client.{answer_in, next_of}
 use Rattle.law_answers.specs.Paths.{Call, EndsIn, Makes, is_over, with_call}
 use Rattle.law_answers.proofs.Public.{made_more, made_none, rolls_bad, rolls_committed, rolls_lost, rolls_unknown}
 use Rattle.law_runs.specs.CommitPaths.{IsAnswerOf, RollsAs}
+use Rattle.sdb_phases.proofs.Public.{starved-pending}
 
 ---- a stage, or the same with out of memory in place of a conflict
 
 abbrev pub IsAs : Stage → Stage → Type 0
 IsAs t s = (s ≡ t) ⊎ (s ≡ out_of_memory t)
 
-same_pending : (p : Work) (t : Stage) → pending p (out_of_memory t) ≡ pending p t
-same_pending p (Preparing i) = refl
-same_pending p (Checking i) = refl
-same_pending p (Deciding d) = refl
-same_pending p (Forward i) = refl
-same_pending p (Stopping a n) = refl
-same_pending p (Back a n i) = refl
-same_pending p (Over a) = refl
-
 pending_as : (p : Work) (t s : Stage) → IsAs t s → pending p t ≡ pending p s
 pending_as p t s (inl e) = ap (pending p) (sym e)
-pending_as p t s (inr e) = sym (ap (pending p) e ∙ same_pending p t)
+pending_as p t s (inr e) = sym (ap (pending p) e ∙ starved-pending p t)
 
 answer_twice : (a : Outcome) → out_of_memory_answer (out_of_memory_answer a) ≡ out_of_memory_answer a
 answer_twice outcome.Committed = refl

@@ -21,13 +21,9 @@ use Rattle.law_runs.specs.CommitPaths.{CommitsArePaths, IsAtOnce, IsCommitPath}
 use Rattle.law_runs.specs.Forged.{CommitText, InsertOn, abort_first, decide_first, delete_first, ends_unfinished, prepare_first, reads_for_rolls, rolls_unprepared}
 use Rattle.law_runs.proofs.RowWrites.{checks_read}
 use Rattle.law_runs.proofs.Unprepared.{checks_no, row_no}
+use Rattle.law_clients.proofs.Public.{take_all}
 
 ---- lists
-
-taken_all : {X : Type 0} (P : X → Type 0) (n : ℕ) (xs : List X) → AllByRecursion P xs → AllByRecursion P (take n xs)
-taken_all P zero xs h = tt
-taken_all P (suc n) [] h = tt
-taken_all P (suc n) (x ∷ xs) h = (h.0, taken_all P n xs h.1)
 
 right_all : {X : Type 0} (P : X → Type 0) (xs ys : List X) → AllByRecursion P (xs ++ ys) → AllByRecursion P ys
 right_all P [] ys h = h
@@ -43,7 +39,7 @@ asked_all P p calls a h k f =
     subst (AllByRecursion P) (sym a.whole)
     (each_append P (take a.prepared (work.prepares p) ++ take a.checked (check_requests p) ++ a.row) []
     (each_append P (take a.prepared (work.prepares p) ++ take a.checked (check_requests p)) a.row
-    (each_append P (take a.prepared (work.prepares p)) (take a.checked (check_requests p)) (taken_all P a.prepared (work.prepares p) h) (taken_all P a.checked (check_requests p) (requests_all P (checks p) k)))
+    (each_append P (take a.prepared (work.prepares p)) (take a.checked (check_requests p)) (take_all P a.prepared (work.prepares p) h) (take_all P a.checked (check_requests p) (requests_all P (checks p) k)))
     (rows a.row a.for_row))
     tt)
   where

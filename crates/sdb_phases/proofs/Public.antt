@@ -7,3 +7,4 @@ pub use Rattle.sdb_phases.proofs.RecoverRows.{by_expiry, by_row, by_rows as by_r
 pub use Rattle.sdb_phases.proofs.RecoverInvariants.{recover_invariant}
 pub use Rattle.sdb_phases.proofs.Rows.{unmet_row}
 pub use Rattle.sdb_phases.proofs.CommitInvariants.{row_malformed}
+pub use Rattle.sdb_phases.proofs.Starved.{starved-pending}
