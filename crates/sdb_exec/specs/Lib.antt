@@ -1,4 +1,3 @@
 pub mod Types
 pub mod Plans
-pub mod Sought
 pub mod Asked
