@@ -28,13 +28,11 @@ use Rattle.sdb_catalog.specs.Known.{IsCatalogIn}
 use Rattle.sdb_stores.specs.Views.{route_of}
 use Rattle.sdb_catalog.proofs.OneReading.{one_reading}
 use Rattle.sdb_catalog.specs.Rows.{metadata_key_of, row_of}
-use Rattle.sdb_catalog.proofs.Catalogs.{count_more, key_of_row, one_count, open_is, own_ns}
+use Rattle.sdb_catalog.proofs.Catalogs.{count_more, key_of_row, one_count, one_more, open_is, own_ns}
 use Rattle.sdb_catalog.proofs.Replaced.{row_at, row_replaced}
+use Rattle.sdb_catalog.proofs.Kept.{in_metadata}
 
 ---- the table of an entry
-
-abbrev one_more : Entry → Bool → List Entry → List Table
-one_more e own es = map (λ (a : Entry). a.table) (cond (not own) (e ∷ open_entries es) (open_entries es))
 
 -- the catalog has the table of the entry
 pub named_table : (es : List Entry) (name : TableName) → table_named (tables_of es) name ≡ option_map (λ (e : Entry). e.table) (entry_named es name)
@@ -167,11 +165,7 @@ follow_altered names passed (x ∷ xs) back c e other own h = (h.0, follow_alter
 
 ---- the rows
 
-in_metadata : (e : Entry) → in_span metadata_span (row_of e).key ≡ true
-unfolding row_of metadata_key_of
-in_metadata e = refl
-
-version_there : (e : Entry) → holds (Version e.revision Committed) (Some (row_of e)) ≡ true
+pub version_there : (e : Entry) → holds (Version e.revision Committed) (Some (row_of e)) ≡ true
 unfolding row_of
 version_there e =
     and_both (has_value (Some (value.Text (id_text e.revision.0))) (value.Text (id_text e.revision.0))) (has_value (Some (value.Int (pos 3))) (value.Int (pos 3)))

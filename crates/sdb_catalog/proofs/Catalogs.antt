@@ -54,7 +54,7 @@ ns_is t h =
       | inr may ↦ name_of_column t.name.ns (and_first (is_column_name t.name.ns) (is_open t.name.ns && is_column_name t.name.table) may.1)
     ]
 
-abbrev one_more : Entry → Bool → List Entry → List Table
+abbrev pub one_more : Entry → Bool → List Entry → List Table
 one_more e own es = map (λ (a : Entry). a.table) (cond (not own) (e ∷ open_entries es) (open_entries es))
 
 pub all_tables : (names : List (List ℕ)) (passed es : List Entry) → Follow names passed es → list_all is_table (tables_of es) ≡ true

@@ -51,7 +51,7 @@ module _ (places : List Place) (first : List ℕ) where
 
 ---- one put
 
-in_metadata : (e : Entry) → in_span metadata_span (row_of e).key ≡ true
+pub in_metadata : (e : Entry) → in_span metadata_span (row_of e).key ≡ true
 unfolding row_of metadata_key_of
 in_metadata e = refl
 

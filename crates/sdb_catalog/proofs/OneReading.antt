@@ -81,10 +81,10 @@ cut_on names passed p ps bad c = record {
 no_follower : {X : Type 0} (names : List (List ℕ)) (passed : List Entry) (bad : Record) (e : Entry) → IsCut names passed [] bad → bad ≡ row_of e → Follows names passed e → X
 no_follower names passed bad e c row fit = absurd (c.stops e (sym row) (subst (λ (l : List Entry). Follows names l e) (sym (append-nil passed)) fit))
 
-head_is : (r s : Record) (rs ss : List Record) → r ∷ rs ≡ s ∷ ss → r ≡ s
+pub head_is : (r s : Record) (rs ss : List Record) → r ∷ rs ≡ s ∷ ss → r ≡ s
 head_is r s rs ss q = cc
 
-tail_is : (r s : Record) (rs ss : List Record) → r ∷ rs ≡ s ∷ ss → rs ≡ ss
+pub tail_is : (r s : Record) (rs ss : List Record) → r ∷ rs ≡ s ∷ ss → rs ≡ ss
 tail_is r s rs ss q = cc
 
 not_empty : {X : Type 0} (r : Record) (rs : List Record) → r ∷ rs ≡ [] → X

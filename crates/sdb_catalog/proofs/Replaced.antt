@@ -12,15 +12,10 @@ use Rattle.sdb_types.specs.Exact.{equal_of}
 use Rattle.sdb_types.specs.Order.{key_cmp}
 use Rattle.sdb_types.proofs.Public.{and_both, and_first, and_second, false_true, key_exact, key_total, truth}
 use Rattle.sdb_catalog.proofs.LastRows.{below_more, not_below, rows_if}
+use Rattle.sdb_catalog.proofs.OneReading.{head_is, tail_is}
 
 abbrev Entries : Type 0
 Entries = List (Key × List Pair)
-
-head_is : (x y : Record) (xs ys : List Record) → x ∷ xs ≡ y ∷ ys → x ≡ y
-head_is x y xs ys h = cc
-
-tail_is : (x y : Record) (xs ys : List Record) → x ∷ xs ≡ y ∷ ys → xs ≡ ys
-tail_is x y xs ys h = cc
 
 none_there : {X : Type 0} (front : List Record) (r : Record) (back : List Record) → [] ≡ front ++ r ∷ back → X
 none_there [] r back h = absurd (let e : [] ≡ r ∷ back = h in cc)

@@ -1,7 +1,7 @@
 -- A column added to a table of the catalog in a store.
 use Rattle.std.specs.Prelude.{◌≡◌, ◌≢◌, ◌⊎◌, ◌+◌, ◌^◌, ℕ, Bool, not, ◌&&◌, nat_lt, List, [], ◌∷◌, ◌++◌, find, Option, Some, None, if◌then◌else◌, codes, decimal}
 use Rattle.std.specs.FinMap.{insert}
-use Rattle.sdb_catalog.specs.Types.{Column, Record, Request, TableName, TxId}
+use Rattle.sdb_catalog.specs.Types.{Column, Place, Record, Request, Table, TableName, TxId}
 use Rattle.sdb_types.specs.declared.record.Condition.TheVariants.{Version}
 use Rattle.sdb_types.specs.declared.record.Reply.TheVariants.{Applied, NotMet}
 use Rattle.sdb_types.specs.declared.record.Request.TheVariants.{PutIf}
@@ -18,6 +18,7 @@ use Rattle.sdb_catalog.specs.declared.refused.CatalogRefused.{CatalogRefused}
 use Rattle.sdb_catalog.specs.declared.refused.CatalogRefused.TheVariants as refused
 use Rattle.sdb_catalog.specs.declared.refused.AlterRefused.{AlterRefused}
 use Rattle.sdb_catalog.specs.declared.refused.AlterRefused.TheVariants as unaltered
+use Rattle.sdb_catalog.specs.Known.{IsCatalogIn}
 use Rattle.sdb_catalog.specs.Calls.{Called, IsRead, IsReadBad, first_contents, metadata_span, with_states}
 use Rattle.sdb_catalog.specs.Opened.{IsFirstBad, Opens, is_coordinators, tables_of}
 use Rattle.sdb_catalog.specs.Rows.{row_of}
@@ -130,6 +131,18 @@ pub record IsGrownIn (names : List (List ℕ)) (name : TableName) (c : Column) (
   pub contents : new ≡ insert old (row_of (altered c entry)).key (row_of (altered c entry)).columns
   pub now : Opens names (rows_in metadata_span new) (altered_entries entries name c)
   pub tables : tables_of (altered_entries entries name c) ≡ with_column (tables_of entries) name c
+
+-- A table was given a column so, and the rows then open as this catalog, with its namespaces placed.
+pub record GrownCatalog : Type 0 where
+  pub names : List (List ℕ)
+  pub name : TableName
+  pub column : Column
+  pub old : Contents
+  pub new : Contents
+  pub grown : IsGrownIn names name column old new
+  pub catalog : List Table
+  pub places : List Place
+  pub opens : IsCatalogIn names new catalog places
 
 -- The catalog of the rows has the table, which refuses the column by this number, and nothing changed.
 pub record IsColumnRefusedIn (names : List (List ℕ)) (name : TableName) (c : Column) (number : ℕ) (old new : Contents) : Type 0 where

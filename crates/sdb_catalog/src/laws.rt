@@ -1,15 +1,14 @@
 //! Laws of the definitions that contracts cite.
 ghost use Rattle.std.specs.Prelude.{◌≡◌, ◌∷◌, [], ℕ, List, map, true, Ok};
-ghost use Rattle.sdb_types.specs.Contents.{Contents};
-ghost use Rattle.sdb_catalog.specs.Types.{Column, Key, Place, Record, Table, TableName};
+ghost use Rattle.sdb_catalog.specs.Types.{Key, Place, Record, Table};
 ghost use Rattle.sdb_schema.specs.Added.{with_column};
 ghost use Rattle.sdb_stores.specs.Views.{route_of};
 ghost use Rattle.sdb_schema.specs.Table.{is_table};
 ghost use Rattle.sdb_loader.specs.Described.{described_table};
 ghost use Rattle.sdb_catalog.specs.declared.entry.Entry.{Entry};
 ghost use Rattle.sdb_catalog.specs.Definition.{definition_text};
-ghost use Rattle.sdb_catalog.specs.Known.{CatalogState, IsCatalogIn, IsWith, IncludesRecords, created_in, lines_of, state_after};
-ghost use Rattle.sdb_catalog.specs.Altered.{IsGrownIn};
+ghost use Rattle.sdb_catalog.specs.Known.{CatalogState, IsWith, IncludesRecords, created_in, lines_of, state_after};
+ghost use Rattle.sdb_catalog.specs.Altered.{GrownCatalog};
 ghost use Rattle.sdb_catalog.specs.Opened.{Follow, IsFirstBad, Opens, store_in, tables_of};
 ghost use Rattle.sdb_catalog.specs.Rows.{row_of};
 
@@ -41,6 +40,6 @@ pub fn tables_are_added()
 /// Where a table was given a column, the rows open as no other catalog than that of before with the column, and each namespace is placed on
 /// the store where it was.
 pub fn columns_are_added()
-    ensures opened { (names : List (List ℕ)) (name : TableName) (c : Column) (old new : Contents) (g : IsGrownIn names name c old new) (catalog : List Table) (places : List Place) → IsCatalogIn names new catalog places → catalog ≡ with_column (tables_of g.entries) name c }
-    ensures placed { (names : List (List ℕ)) (name : TableName) (c : Column) (old new : Contents) (g : IsGrownIn names name c old new) (catalog : List Table) (places : List Place) → IsCatalogIn names new catalog places → (ns : List ℕ) → route_of ns places ≡ store_in g.entries ns }
+    ensures opened { (x : GrownCatalog) → x.catalog ≡ with_column (tables_of x.grown.entries) x.name x.column }
+    ensures placed { (x : GrownCatalog) (ns : List ℕ) → route_of ns x.places ≡ store_in x.grown.entries ns }
 {}

@@ -20,7 +20,7 @@ use Rattle.sdb_types.proofs.Public.{all_each, and_both, and_false, and_first, an
 use Rattle.sdb_record.specs.Parts.{is_column_name}
 use Rattle.sdb_stores.specs.Views.{Attached, StoreView, index_at}
 use Rattle.sdb_catalog.specs.Rows.{MayHaveRow, metadata_table, row_of}
-use Rattle.sdb_catalog.proofs.Public.{key_of_row, own_ns}
+use Rattle.sdb_catalog.proofs.Public.{key_of_row, own_ns, version_there}
 use Rattle.law_protocol.proofs.Public.{after_put}
 use Rattle.sdb_contents.specs.declared.seen.Seen.{Seen}
 use Rattle.sdb_contents.specs.declared.survey.Survey.{Survey}
@@ -143,12 +143,6 @@ rows_there m (e ∷ es) h = (h.0, rows_there m es h.1)
 
 pub renewed_key : (to : List ℕ) (e : Entry) → (row_of (renewed to e)).key ≡ (row_of e).key
 renewed_key to e = key_of_row (renewed to e) ∙ sym (key_of_row e)
-
-pub version_there : (e : Entry) → holds (Version e.revision Committed) (Some (row_of e)) ≡ true
-unfolding row_of
-version_there e =
-    and_both (has_value (Some (value.Text (id_text e.revision.0))) (value.Text (id_text e.revision.0))) (has_value (Some (value.Int (pos 3))) (value.Int (pos 3)))
-    (ap is_eq (tied_itself value_total (value.Text (id_text e.revision.0)))) (ap is_eq (tied_itself value_total (value.Int (pos 3))))
 
 renewal_met : (to : List ℕ) (e : Entry) (m : Contents) → record_at m (row_of e).key ≡ Some (row_of e) → reply_to (renewal to e) m ≡ reply.Applied
 renewal_met to e m h =

@@ -23,7 +23,8 @@ use Rattle.sdb_contents.specs.Writes.{Hold, after_writes, contents_at, span_of, 
 use Rattle.sdb_contents.proofs.RetireCalls.{after_more}
 use Rattle.sdb_contents.proofs.Joins.{after_each, among_all, apart_key, rows_inside, table_of_key}
 use Rattle.sdb_contents.proofs.Known.{own_writes}
-use Rattle.sdb_contents.proofs.Passing.{AreThere, KeysApart, first_rise, first_rows, first_there, keys_apart, renewed_key, renewed_other, rows_kept, rows_stay, version_there}
+use Rattle.sdb_contents.proofs.Passing.{AreThere, KeysApart, first_rise, first_rows, first_there, keys_apart, renewed_key, renewed_other, rows_kept, rows_stay}
+use Rattle.sdb_catalog.proofs.Public.{version_there}
 
 ---- rows that rise are what is at their keys
 
