@@ -4,13 +4,13 @@
 #[cfg(test)]
 mod altered;
 #[cfg(test)]
+mod asked;
+#[cfg(test)]
 mod attached;
 #[cfg(test)]
 mod commands;
 #[cfg(test)]
 mod commits;
-#[cfg(test)]
-mod asked;
 #[cfg(test)]
 mod failing;
 #[cfg(test)]

@@ -105,7 +105,7 @@ returns-in-Alter-clause-answered g c =
     let work = work_on (g.S.Registry.state c.args.stores.now) (g.S.Registry.state c.alter.new.stores) input in
     let d = draws g.C.Clock.answered g.I.Ids.answered c.args.clock.now c.args.clock.now c.args.ids.now c.args.ids.now in
     subst (λ (x : Command). IfOk c.alter.result (λ text. (promise_of x work d).answers text)) (sym c.in-Alter.is)
-    (ok_then _ _ c.alter.result (λ text h. (h input, record { clock = refl; ids = refl })) c.alter.ensures.answered)
+    (map_ok _ _ c.alter.result (λ text h. (h input, record { clock = refl; ids = refl })) c.alter.ensures.answered)
 
 pub returns-in-Alter-clause-err : goal.returns-in-Alter-clause-err
 returns-in-Alter-clause-err g c =
