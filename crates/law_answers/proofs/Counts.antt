@@ -215,11 +215,11 @@ first_light (r ∷ left) = by (kind_of r) refl (fewer_rest (opens left) (opens (
 abbrev rest_of : VacuumAt → ℕ
 rest_of v = length v.spans + rest_of_table v.stage
 
-pub next_light : (ss : List Span) (n : ℕ) → rest_of (next_table ss n).0 ≤ length ss
+next_light : (ss : List Span) (n : ℕ) → rest_of (next_table ss n).0 ≤ length ss
 next_light [] n = omega arith
 next_light (s ∷ ss) n = omega arith
 
-pub row_light : (ss : List Span) (n : ℕ) (f : First) → rest_of (next_of_row ss n f).0 ≤ first_rest f + length ss
+row_light : (ss : List Span) (n : ℕ) (f : First) → rest_of (next_of_row ss n f).0 ≤ first_rest f + length ss
 row_light ss n Nothing = let h = next_light ss n in omega arith
 row_light ss n (Tombstone b left) = omega arith
 row_light ss n (Unresolved r meta left) = omega arith

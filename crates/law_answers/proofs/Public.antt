@@ -2,7 +2,7 @@
 pub use Rattle.law_answers.proofs.Calls.{call_executed, calls_open, calls_stay, clock_more, clock_same, end_answered, end_waiting, later_calls, later_more, later_within, made_at, none_made, of_within, one_made, own_made, silent_executed}
 pub use Rattle.law_answers.proofs.Conflicts.{mapped_at, prepared_is, undo_unprepared}
 pub use Rattle.law_answers.proofs.Counting.{all_counted}
-pub use Rattle.law_answers.proofs.Counts.{calls_more, next_light, opens_first, opens_more, opens_one, row_light}
+pub use Rattle.law_answers.proofs.Counts.{calls_more, opens_first, opens_more, opens_one}
 pub use Rattle.law_answers.proofs.CountsNotes.{last_or, open_only}
 pub use Rattle.law_answers.proofs.Ends.{commit_is}
 pub use Rattle.law_answers.proofs.Faults.{answered_seen, seen_no_faults}

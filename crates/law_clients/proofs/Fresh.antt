@@ -8,7 +8,6 @@ use Rattle.law_protocol.specs.History as laws
 use Rattle.law_protocol.specs.History.{Action, Other, Begins, Takes, Prepares, Checks, Decides, Aborts, Rolls, Removes, Ends, Stops, ProtocolState, state_after_event, state_after}
 use Rattle.law_protocol.specs.Lawful.{Labelled, IsLawful, IsEnabled, protocol_state, ended}
 use Rattle.law_protocol.proofs.Public.{closed_still}
-use Rattle.law_clients.proofs.Replan.{asked_kept}
 
 -- a transaction is open, and its COMMIT is accepted, only after it has begun; and its calls come only after its COMMIT was accepted
 pub record InTurn (h : ProtocolState) (t : ℕ) : Type 0 where
@@ -33,6 +32,9 @@ taken_kept h r t a o u b = grind (arith, nat_tests)
 
 stage_kept : (h : ProtocolState) (r : Action) (t : ℕ) → IsAfter h r → (h.accepted t ≡ false → h.stage t ≡ laws.Preparing) → (state_after_event h r).accepted t ≡ false → (state_after_event h r).stage t ≡ laws.Preparing
 stage_kept h r t a u f = grind (arith, nat_tests)
+
+asked_kept : (h : ProtocolState) (r : Action) (t : ℕ) (k : Key) → IsAfter h r → (h.accepted t ≡ false → h.asked t k ≡ false) → (state_after_event h r).accepted t ≡ false → (state_after_event h r).asked t k ≡ false
+asked_kept h r t k a u f = grind (arith, tests)
 
 risked_kept : (h : ProtocolState) (r : Action) (t : ℕ) → IsAfter h r → (h.accepted t ≡ false → h.risked t ≡ false) → (state_after_event h r).accepted t ≡ false → (state_after_event h r).risked t ≡ false
 risked_kept h r t a u f = grind (arith, nat_tests)

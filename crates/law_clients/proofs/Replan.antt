@@ -21,7 +21,7 @@ IsAfter h (Prepares t k word) = h.accepted t ≡ true
 IsAfter h (Decides t word) = h.accepted t ≡ true
 IsAfter h r = Unit {0}
 
-pub asked_kept : (h : ProtocolState) (r : Action) (t : ℕ) (k : Key) → IsAfter h r → (h.accepted t ≡ false → h.asked t k ≡ false) → (state_after_event h r).accepted t ≡ false → (state_after_event h r).asked t k ≡ false
+asked_kept : (h : ProtocolState) (r : Action) (t : ℕ) (k : Key) → IsAfter h r → (h.accepted t ≡ false → h.asked t k ≡ false) → (state_after_event h r).accepted t ≡ false → (state_after_event h r).asked t k ≡ false
 asked_kept h r t k a u f = grind (arith, tests)
 
 won_kept : (h : ProtocolState) (r : Action) (t : ℕ) → IsAfter h r → (h.accepted t ≡ false → h.won t ≡ false) → (state_after_event h r).accepted t ≡ false → (state_after_event h r).won t ≡ false

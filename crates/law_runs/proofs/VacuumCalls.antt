@@ -18,7 +18,7 @@ use Rattle.sdb_txn.specs.Read.{Bad, Firm, Kind, Open, kind_of}
 use Rattle.sdb_vacuum.specs.Vacuum.{First, Malformed, Nothing, Over, Removing, Resolving, Scanning, Tombstone, Unresolved, VacuumAt, VacuumStage, answered, first_of, first_one, next_of_row, with_call, next_table, pending_at, removal_answered, resolved, step_at, tombstone_or}
 use Rattle.law_answers.specs.Counts.{opens}
 use Rattle.sdb_phases.specs.RecoverCalls.{calls_left}
-use Rattle.law_answers.proofs.Public.{IsDataTable, calls_more, data_read, next_light, opens_first, opens_more, opens_one, row_light}
+use Rattle.law_answers.proofs.Public.{IsDataTable, calls_more, data_read, opens_first, opens_more, opens_one}
 use Rattle.sdb_phases.proofs.Public.{IsNearer, recover_nearer}
 use Rattle.law_runs.specs.Vacuums.{IsVacuumMost, is_committed_tombstone, span_asked, tombstones_found, tombstones_in}
 use Rattle.law_runs.proofs.Vacuuming.{firm_dead}
@@ -87,6 +87,16 @@ first_light (r ∷ left) = by (kind_of r) refl (fewer (first_rest (first_of left
     by Firm e h = firm (is_tombstone r) e refl h
     by (Open meta) e h = opened (dead left) (dead (r ∷ left)) (opens left) (opens (r ∷ left)) (dead_first r left) (opens_one r meta left e)
     by Bad e h = omega arith
+
+next_light : (ss : List Span) (n : ℕ) → rest_of (next_table ss n).0 ≤ length ss
+next_light [] n = omega arith
+next_light (s ∷ ss) n = omega arith
+
+row_light : (ss : List Span) (n : ℕ) (f : First) → rest_of (next_of_row ss n f).0 ≤ first_rest f + length ss
+row_light ss n Nothing = let h = next_light ss n in omega arith
+row_light ss n (Tombstone b left) = omega arith
+row_light ss n (Unresolved r meta left) = omega arith
+row_light ss n (Malformed key) = omega arith
 
 on_light : (ss : List Span) (n : ℕ) (left : List Record) → rest_of (next_of_row ss n (first_of left)).0 ≤ left_calls left + length ss
 on_light ss n left = by (rest_of (next_of_row ss n (first_of left)).0) (first_rest (first_of left)) (left_calls left) (length ss) (row_light ss n (first_of left)) (first_light left)

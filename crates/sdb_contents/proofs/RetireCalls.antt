@@ -10,7 +10,7 @@ use Rattle.sdb_stores.specs.Views.{Attached, StoreView, IsCallAt, HaveRisen, ind
 use Rattle.std.specs.Prelude.{unwrap_or}
 use Rattle.sdb_stores.proofs.Public.{grown, same_names}
 use Rattle.sdb_contents.specs.Writes.{GoOn, Hold, HoldFirst, IsScanned, MayHold, Write, after_write, after_writes, contents_at, contents_of, span_of, write_at}
-use Rattle.sdb_catalog.proofs.Public.{left_by, risen_more}
+use Rattle.sdb_catalog.proofs.Public.{left_by}
 
 ---- one call
 
@@ -154,6 +154,13 @@ same_index old new name goes = ap (λ (ns : List (List ℕ)). unwrap_or (place_o
 
 pub still_there : (old new : Attached) (name : List ℕ) → GoOn old new → IsSome (index_in old name) → IsSome (index_in new name)
 still_there old new name goes h = subst (λ (ns : List (List ℕ)). IsSome (place_of name ns)) (sym goes.names) h
+
+pub risen_more : (old mid : Attached) (new : List StoreView) → GoOn old mid → HaveRisen mid.views new → HaveRisen old.views new
+risen_more old mid new a h =
+    elim h [
+      | inl rose ↦ inl (omega (arith, a.counted, rose))
+      | inr most ↦ inr most
+    ]
 
 pub risen_later : (old mid : List StoreView) (new : List StoreView) → mid ≡ new → HaveRisen old mid → HaveRisen old new
 risen_later old mid new e h = subst (HaveRisen old) e h

@@ -20,8 +20,7 @@ use Rattle.sdb_contents.specs.Copying.{AreFree, IsBlocked, IsFirstBlocking, IsFr
 use Rattle.sdb_contents.specs.Read.{AreSeen, IsUnseen}
 use Rattle.sdb_contents.specs.Stopped.{IsBlockedIn, IsStopped, IsUnmet, IsUnwritten}
 use Rattle.sdb_contents.specs.Writes.{GoOn, Hold, HoldFirst, IsScanned, MayHold, Write, write_at, writes_at}
-use Rattle.sdb_contents.proofs.RetireCalls.{first_one, hold_more, hold_none, same_index, shown_earlier}
-use Rattle.sdb_catalog.proofs.Public.{risen_more}
+use Rattle.sdb_contents.proofs.RetireCalls.{first_one, hold_more, hold_none, risen_more, same_index, shown_earlier}
 
 ---- writes
 

@@ -14,8 +14,7 @@ use Rattle.sdb_contents.specs.Read.{AreOpened, AreSeen, IsUnread, IsUnseen}
 use Rattle.sdb_contents.specs.Retired.{AreAllMoved, OthersArePreserved, IsHalted, IsLeft, IsSurvey, IsUnmoved, IsUnsurveyed, Sides, copies_of, writes_of}
 use Rattle.sdb_contents.specs.Stopped.{IsUnwritten}
 use Rattle.sdb_contents.specs.Writes.{GoOn, Hold, HoldFirst, Write, writes_at}
-use Rattle.sdb_contents.proofs.RetireCalls.{first_back, first_front, goes_none, hold_more, hold_none, hold_same, same_index, shown_earlier}
-use Rattle.sdb_catalog.proofs.Public.{risen_more}
+use Rattle.sdb_contents.proofs.RetireCalls.{first_back, first_front, goes_none, hold_more, hold_none, hold_same, risen_more, same_index, shown_earlier}
 use Rattle.sdb_contents.proofs.Known.{others_first, others_held, tables_moved}
 use Rattle.sdb_contents.proofs.Renewing.{rows_renewed}
 use Rattle.sdb_contents.proofs.Making.{all_less, made_both}
