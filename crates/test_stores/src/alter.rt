@@ -283,11 +283,13 @@ fn a_row_that_has_changed_differs(rt: HostRuntime) -> Result<(), Fail> {
 const JSON: &str =
     "{\"bank.account\":{\"partition-key\":[\"id\"],\"columns\":{\"id\":\"int\",\"balance\":\"int\"}}}";
 
-// A column that is added to a table of a catalog, and then the names of its columns; or the number of the cause that refuses it.
+// A column that is added to the first table of a catalog, the number of the cause that refuses it, if one does, and then the names of the
+// table's columns.
 #[derive(Clone, Copy)]
-enum InCatalog {
-    Taken(Added, [&'static str; 3]),
-    Refused(Added, u8),
+struct InCatalog {
+    added: Added,
+    cause: Option<u8>,
+    columns: &'static [&'static str],
 }
 
 fn has_columns(table: Option<&Table>, names: &[&str]) -> bool {
@@ -319,15 +321,8 @@ fn adds_to(alloc: Global, catalog: &mut Catalog, added: Added) -> Option<Option<
 
 impl InCatalog {
     fn is_so(self, alloc: Global, catalog: &mut Catalog) -> bool {
-        match self {
-            InCatalog::Taken(added, names) => {
-                adds_to(alloc, catalog, added) == Some(None) && has_columns(catalog.at(0), &names)
-            }
-            InCatalog::Refused(added, number) => {
-                adds_to(alloc, catalog, added) == Some(Some(number))
-                    && has_columns(catalog.at(0), &["balance", "id"])
-            }
-        }
+        adds_to(alloc, catalog, self.added) == Some(self.cause)
+            && has_columns(catalog.at(0), self.columns)
     }
 }
 
@@ -344,14 +339,31 @@ impl Case for InCatalog {
 }
 
 static COLUMNS: [InCatalog; 5] = [
-    InCatalog::Taken(
-        Added("bank", "account", "country"),
-        ["balance", "country", "id"],
-    ),
-    InCatalog::Taken(Added("bank", "account", "zone"), ["balance", "id", "zone"]),
-    InCatalog::Refused(Added("bank", "accounts", "zone"), 1),
-    InCatalog::Refused(Added("bank", "account", "id"), 2),
-    InCatalog::Refused(Added("bank", "account", "tx_state"), 3),
+    InCatalog {
+        added: Added("bank", "account", "country"),
+        cause: None,
+        columns: &["balance", "country", "id"],
+    },
+    InCatalog {
+        added: Added("bank", "account", "zone"),
+        cause: None,
+        columns: &["balance", "id", "zone"],
+    },
+    InCatalog {
+        added: Added("bank", "accounts", "zone"),
+        cause: Some(1),
+        columns: &["balance", "id"],
+    },
+    InCatalog {
+        added: Added("bank", "account", "id"),
+        cause: Some(2),
+        columns: &["balance", "id"],
+    },
+    InCatalog {
+        added: Added("bank", "account", "tx_state"),
+        cause: Some(3),
+        columns: &["balance", "id"],
+    },
 ];
 
 #[test]

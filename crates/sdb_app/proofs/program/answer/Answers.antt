@@ -142,7 +142,7 @@ returns-in-Alter-clause-kept g c = Kept c.alter.ensures.kept
 
 pub alter-requires-clause-short : goal.alter-requires-clause-short
 alter-requires-clause-short g c =
-    and_first (nat_le (length c.in-Alter.name.now) 64) (is_identifier c.in-Alter.name.now) (subst (λ (x : Command). AnswersOnce (names_of (g.S.Registry.state c.args.stores.now).views) x) c.in-Alter.is c.requires.once)
+    and_first (nat_le (length c.in-Alter.name) 64) (is_identifier c.in-Alter.name) (subst (λ (x : Command). AnswersOnce (names_of (g.S.Registry.state c.args.stores.now).views) x) c.in-Alter.is c.requires.once)
 
 pub retire-requires : goal.retire-requires
 retire-requires g c = record { may = subst (λ (x : Command). AnswersOnce (names_of (g.S.Registry.state c.args.stores.now).views) x) c.in-Retire.is c.requires.once }
