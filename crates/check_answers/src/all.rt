@@ -67,7 +67,7 @@ fn are_resolved(
     are_resolved(alloc, events, client, rest)
 }
 
-fn is_transaction_shown(
+fn is_transaction_observed(
     alloc: Global,
     catalog: &Catalog,
     events: &[Event],
@@ -83,7 +83,7 @@ fn is_transaction_shown(
 }
 
 // Whether it holds of a client's first transactions.
-fn are_shown_upto(
+fn are_observed_upto(
     alloc: Global,
     catalog: &Catalog,
     events: &[Event],
@@ -96,9 +96,9 @@ fn are_shown_upto(
     if count == 0 {
         return Ok(true);
     }
-    let observed = is_transaction_shown(alloc, catalog, events, stores, id_of(client, count))?;
+    let observed = is_transaction_observed(alloc, catalog, events, stores, id_of(client, count))?;
     if observed {
-        return are_shown_upto(alloc, catalog, events, stores, client, count - 1);
+        return are_observed_upto(alloc, catalog, events, stores, client, count - 1);
     }
     Ok(false)
 }
@@ -117,7 +117,7 @@ fn is_client_kept(
         Law::Counts => are_counted(alloc, catalog, events, client, executed.as_slice()),
         Law::Rolls => are_resolved(alloc, events, client, executed.as_slice()),
         Law::Rows(stores) => {
-            are_shown_upto(
+            are_observed_upto(
                 alloc,
                 catalog,
                 events,

@@ -42,7 +42,7 @@ fn any_shows(
     any_shows(alloc, table, names, row, rest)
 }
 
-fn are_shown(
+fn are_projected(
     alloc: Global,
     table: &Table,
     names: &[Name],
@@ -58,10 +58,10 @@ fn are_shown(
     if !any {
         return Ok(false);
     }
-    are_shown(alloc, table, names, rest, images)
+    are_projected(alloc, table, names, rest, images)
 }
 
-fn select_shown(
+fn is_select_of(
     alloc: Global,
     catalog: &Catalog,
     select: &Select,
@@ -73,14 +73,14 @@ fn select_shown(
     match catalog.find(&select.table) {
         Some(table) => {
             let names = projected_names(alloc, table, &select.columns)?;
-            are_shown(alloc, table, names.as_slice(), rows, images)
+            are_projected(alloc, table, names.as_slice(), rows, images)
         }
         None => Ok(false),
     }
 }
 
 // Whether the statement is a SELECT by which these images show these rows.
-fn statement_shown(
+fn is_statement_of(
     alloc: Global,
     catalog: &Catalog,
     statement: &Option<Statement>,
@@ -90,7 +90,7 @@ fn statement_shown(
     ensures { IfOk result (λ are. are ≡ statement_is_of_lem catalog.now statement.now rows.now images.now) }
 {
     match statement {
-        Some(Statement::Select(select)) => select_shown(alloc, catalog, select, rows, images),
+        Some(Statement::Select(select)) => is_select_of(alloc, catalog, select, rows, images),
         _ => Ok(false),
     }
 }
@@ -111,7 +111,7 @@ fn some_had(
     Ok(images.first().is_some())
 }
 
-fn answer_shown(
+fn is_answer_of(
     alloc: Global,
     catalog: &Catalog,
     stores: &Stores,
@@ -125,7 +125,7 @@ fn answer_shown(
         Some(Answer::Rows(rows)) => {
             let images = images_had(alloc, catalog, stores, &turn.executed, keys, turns)?;
             let observed = rows.as_slice();
-            statement_shown(alloc, catalog, &turn.statement, observed, images.as_slice())
+            is_statement_of(alloc, catalog, &turn.statement, observed, images.as_slice())
         }
         Some(Answer::Duplicate(key)) => {
             some_had(alloc, catalog, stores, &turn.executed, key, turns)
@@ -148,7 +148,7 @@ pub fn answers_have_rows(
     let Some((first, rest)) = some.split_first() else {
         return Ok(true);
     };
-    let is = answer_shown(alloc, catalog, stores, keys, turns, first)?;
+    let is = is_answer_of(alloc, catalog, stores, keys, turns, first)?;
     if !is {
         return Ok(false);
     }

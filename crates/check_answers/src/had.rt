@@ -103,7 +103,7 @@ fn add_image(images: &mut Images, key: &Key, row: &Option<Columns>) -> Result<()
     }
 }
 
-fn add_if_said(
+fn add_if_executed(
     images: &mut Images,
     executed: &Executed,
     key: &Key,
@@ -133,7 +133,7 @@ fn add_from(
     let Some((first, rest)) = turns.split_first() else {
         return Ok(());
     };
-    add_if_said(images, executed, key, &row, first)?;
+    add_if_executed(images, executed, key, &row, first)?;
     if !is_effective(&first.executed) {
         return add_from(alloc, images, catalog, executed, key, row, rest);
     }

@@ -126,7 +126,7 @@ fn add_notes(alloc: Global, read_set: &mut Seq<ReadItem>, calls: &[Made]) -> Res
 }
 
 // Adds what one statement of a transaction read.
-fn add_said(
+fn add_executed(
     alloc: Global,
     read_set: &mut Seq<ReadItem>,
     events: &[Event],
@@ -142,7 +142,7 @@ fn add_said(
     add_notes(alloc, read_set, calls.as_slice())
 }
 
-fn add_all_said(
+fn add_all_executed(
     alloc: Global,
     read_set: &mut Seq<ReadItem>,
     events: &[Event],
@@ -152,7 +152,7 @@ fn add_all_said(
     ensures { OnOk result (all_items read_set.new ≡ all_items read_set.old ++ flat_map (λ s. items_of_statement events.now client (executed_of s)) all.now) }
 {
     for executed in all {
-        add_said(alloc, read_set, events, client, executed)?;
+        add_executed(alloc, read_set, events, client, executed)?;
     }
     Ok(())
 }
@@ -166,6 +166,6 @@ pub fn read_set_of(alloc: Global, events: &[Event], id: TxId) -> Result<Seq<Read
     let all = statements_by(alloc, client, events)?;
     let inside = inside_of(alloc, all.as_slice(), ordinal_of(id))?;
     let mut read_set = Seq::new(alloc);
-    add_all_said(alloc, &mut read_set, events, client, inside)?;
+    add_all_executed(alloc, &mut read_set, events, client, inside)?;
     Ok(read_set)
 }

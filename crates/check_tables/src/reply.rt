@@ -52,7 +52,7 @@ fn found_decided(alloc: Global, request: &Request, reply: &Reply) -> Option<Deci
     }
 }
 
-fn decision_said(alloc: Global, request: &Request, reply: &Reply) -> Option<Decided>
+fn decision_observed_in(alloc: Global, request: &Request, reply: &Reply) -> Option<Decided>
     ensures { result ≡ decision_in_reply_lem request.now reply.now }
 {
     match reply {
@@ -66,7 +66,7 @@ pub fn decision_at(alloc: Global, row: &Key, made: &Made) -> Option<Decided>
     ensures { result ≡ decision_at_lem row.now made.now }
 {
     if asks_row(row, &made.request) {
-        decision_said(alloc, &made.request, &made.reply)
+        decision_observed_in(alloc, &made.request, &made.reply)
     } else {
         None
     }

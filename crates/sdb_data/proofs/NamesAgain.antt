@@ -22,7 +22,7 @@ use Rattle.sdb_schema.specs.declared.make.TableRefused.{TableRefused}
 use Rattle.sdb_schema.specs.Table.{checked_table, column_names, first_unknown, has_column, is_key_column, is_table, key_names, kind_in, none_of, refuse, rises, is_above_column}
 use Rattle.sdb_data.specs.declared.fault.Mode.{Mode}
 use Rattle.sdb_data.specs.declared.fault.Mode.TheVariants as mode
-use Rattle.sdb_data.specs.Tables.{header_fault, is_named, named_at, names_fault, nothing_to_set, repeat_place, column_taken}
+use Rattle.sdb_data.specs.Tables.{header_fault, is_named, named_at, names_fault, nothing_to_set, repeat_place, column_found}
 use Rattle.sdb_data.specs.Printed.{can_load}
 use Rattle.sdb_data.proofs.FieldsAgain.{ascii-utf8}
 
@@ -71,7 +71,7 @@ many : (front : List Column) (c : Column) (back : List Column) → length front 
 many [] c back = omega arith
 many (d ∷ ds) c back = let m = many ds c back in omega arith
 
-pub at-place : (front : List Column) (c : Column) (back : List Column) → rises (front ++ c ∷ back) ≡ true → column_taken (column_names (front ++ c ∷ back)) c ≡ Some (record { kind = c.kind; place = length front })
+pub at-place : (front : List Column) (c : Column) (back : List Column) → rises (front ++ c ∷ back) ≡ true → column_found (column_names (front ++ c ∷ back)) c ≡ Some (record { kind = c.kind; place = length front })
 at-place front c back r =
     let p = place front c back r in
     let m = many front c back in

@@ -13,7 +13,7 @@ use Rattle.sdb_schema.specs.Table.{column_names, is_key_column, is_table, kind_i
 use Rattle.sdb_data.specs.declared.field.Head.{Head}
 use Rattle.sdb_data.specs.declared.fault.Mode.{Mode}
 use Rattle.sdb_data.specs.Fields.{field_of, suits, value_at}
-use Rattle.sdb_data.specs.Tables.{bad_place, cell_of, fault_from, first_fault, head_of, heads_of, record_fault, row_of, rows_in, column_taken, columns_taken}
+use Rattle.sdb_data.specs.Tables.{bad_place, cell_of, fault_from, first_fault, head_of, heads_of, record_fault, row_of, rows_in, column_found, columns_found}
 use Rattle.sdb_data.specs.Printed.{are_cells, can_load, fields_of_row, header_row, is_cell, is_row, records_of}
 use Rattle.sdb_data.proofs.FieldsAgain.{cell-again}
 use Rattle.sdb_data.proofs.NamesAgain.{at-place, header-valid, kinds, names-row}
@@ -78,7 +78,7 @@ one-longer (d ∷ ds) c [] v e = cc e
 one-longer (d ∷ ds) c (w ∷ ws) v e = let k : length ws ≡ length ds = omega arith in ap suc (one-longer ds c ws v k)
 
 values-again : (t : Table) (front back : List Column) (rf rb : List Value) → rises (front ++ back) ≡ true → length rf ≡ length front → are_cells t back rb ≡ true
-    → map (cell_of (fields_of_row (rf ++ rb))) (filter_map (column_taken (column_names (front ++ back))) back) ≡ rb
+    → map (cell_of (fields_of_row (rf ++ rb))) (filter_map (column_found (column_names (front ++ back))) back) ≡ rb
 values-again t front [] rf [] r e h = refl
 values-again t front [] rf (v ∷ vs) r e h = cc h
 values-again t front (c ∷ cs) rf [] r e h = cc h
@@ -86,15 +86,15 @@ values-again t front (c ∷ cs) rf (v ∷ vs) r e h =
     let a = cell-again t c v (and_first (is_cell t c v) (are_cells t cs vs) h) in
     let here : value_at c.kind (get_or (fields_of_row (rf ++ v ∷ vs)) (length front) []) ≡ v = ap (λ n. value_at c.kind (get_or (fields_of_row (rf ++ v ∷ vs)) n [])) (sym e) ∙ ap (value_at c.kind) (value-here rf v vs) ∙ a.value in
     let rest = values-again t (front ++ c ∷ []) cs (rf ++ v ∷ []) vs (ap rises (shift front c cs) ∙ r) (one-longer front c rf v e) (and_second (is_cell t c v) (are_cells t cs vs) h) in
-    let moved : map (cell_of (fields_of_row (rf ++ v ∷ vs))) (filter_map (column_taken (column_names (front ++ c ∷ cs))) cs) ≡ vs =
-    subst (λ (w : List Value). map (cell_of (fields_of_row w)) (filter_map (column_taken (column_names (front ++ c ∷ cs))) cs) ≡ vs) (shift rf v vs)
-    (subst (λ (ds : List Column). map (cell_of (fields_of_row ((rf ++ v ∷ []) ++ vs))) (filter_map (column_taken (column_names ds)) cs) ≡ vs) (shift front c cs) rest) in
+    let moved : map (cell_of (fields_of_row (rf ++ v ∷ vs))) (filter_map (column_found (column_names (front ++ c ∷ cs))) cs) ≡ vs =
+    subst (λ (w : List Value). map (cell_of (fields_of_row w)) (filter_map (column_found (column_names (front ++ c ∷ cs))) cs) ≡ vs) (shift rf v vs)
+    (subst (λ (ds : List Column). map (cell_of (fields_of_row ((rf ++ v ∷ []) ++ vs))) (filter_map (column_found (column_names ds)) cs) ≡ vs) (shift front c cs) rest) in
     rw (at-place front c cs r, here, moved) refl
 
-row-again : (t : Table) (row : List Value) → rises t.columns ≡ true → is_row t row ≡ true → row_of (columns_taken t.columns (column_names t.columns)) (fields_of_row row) ≡ row
+row-again : (t : Table) (row : List Value) → rises t.columns ≡ true → is_row t row ≡ true → row_of (columns_found t.columns (column_names t.columns)) (fields_of_row row) ≡ row
 row-again t row r h = values-again t [] t.columns [] row r refl h
 
-rows-again : (t : Table) (rows : List (List Value)) → rises t.columns ≡ true → list_all (is_row t) rows ≡ true → map (row_of (columns_taken t.columns (column_names t.columns))) (map fields_of_row rows) ≡ rows
+rows-again : (t : Table) (rows : List (List Value)) → rises t.columns ≡ true → list_all (is_row t) rows ≡ true → map (row_of (columns_found t.columns (column_names t.columns))) (map fields_of_row rows) ≡ rows
 rows-again t [] r h = refl
 rows-again t (row ∷ rows) r h = rw (row-again t row r (and_first (is_row t row) _ h), rows-again t rows r (and_second (is_row t row) _ h)) refl
 

@@ -17,7 +17,7 @@ use Rattle.sdb_data.specs.declared.fault.CsvRefused.TheVariants.{BadCsv, NoMemor
 use Rattle.sdb_data.specs.declared.fault.Mode.{Mode}
 use Rattle.sdb_data.specs.declared.fault.Mode.TheVariants as mode
 use Rattle.sdb_data.specs.declared.field.Head.{Head}
-use Rattle.sdb_data.specs.declared.header.ColumnTaken.{ColumnTaken}
+use Rattle.sdb_data.specs.declared.header.ColumnFound.{ColumnFound}
 use Rattle.sdb_data.specs.Records.{csv_records}
 use Rattle.sdb_data.specs.Fields.{suits, value_at}
 
@@ -110,18 +110,18 @@ first_fault t m (header ∷ records) = option_or (in_record 1 (header_fault t m 
 ---- rows
 
 -- where a column of the table is named, with its kind
-abbrev pub column_taken : List (List ℕ) → Column → Option ColumnTaken
-column_taken header c = option_map (λ i. record { kind = c.kind; place = i }) (position (λ n. same_name n c.name) header)
+abbrev pub column_found : List (List ℕ) → Column → Option ColumnFound
+column_found header c = option_map (λ i. record { kind = c.kind; place = i }) (position (λ n. same_name n c.name) header)
 
 -- the columns that the header names, in the order of their names
-abbrev pub columns_taken : List Column → List (List ℕ) → List ColumnTaken
-columns_taken columns header = filter_map (column_taken header) columns
+abbrev pub columns_found : List Column → List (List ℕ) → List ColumnFound
+columns_found columns header = filter_map (column_found header) columns
 
-abbrev pub cell_of : List (List ℕ) → ColumnTaken → Value
+abbrev pub cell_of : List (List ℕ) → ColumnFound → Value
 cell_of fields x = value_at x.kind (get_or fields x.place [])
 
 -- the values of a record, in the order of their columns' names
-abbrev pub row_of : List ColumnTaken → List (List ℕ) → List Value
+abbrev pub row_of : List ColumnFound → List (List ℕ) → List Value
 row_of accepted fields = map (cell_of fields) accepted
 
 -- the name of a column that is named, as a text
@@ -135,7 +135,7 @@ named_row columns header = filter_map (named_at header) columns
 -- The rows that are read: first the names of the columns that the text has, and then the values of each record.
 abbrev pub rows_in : Table → List (List (List ℕ)) → List (List Value)
 rows_in t [] = []
-rows_in t (header ∷ records) = named_row t.columns header ∷ map (row_of (columns_taken t.columns header)) records
+rows_in t (header ∷ records) = named_row t.columns header ∷ map (row_of (columns_found t.columns header)) records
 
 abbrev pub read_rows : Option (ℕ × CsvFault) → List (List Value) → Result (List (List Value)) (ℕ × CsvFault)
 read_rows None rows = Ok rows

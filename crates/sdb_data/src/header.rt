@@ -18,7 +18,7 @@ use std::alloc::Global;
 
 /// A column that the header names: its kind, and the place of its field, from 0.
 #[derive(Clone, Copy)]
-pub struct ColumnTaken {
+pub struct ColumnFound {
     pub kind: Kind,
     pub place: usize,
 }
@@ -219,11 +219,11 @@ fn place_of(header: &[Txt], name: &str) -> Option<usize>
     header.iter().position(|other| is_text(other, name))
 }
 
-fn accepted_at(header: &[Txt], column: &Column) -> Option<ColumnTaken>
-    ensures { result ≡ spec.column_taken header.now column.now }
+fn accepted_at(header: &[Txt], column: &Column) -> Option<ColumnFound>
+    ensures { result ≡ spec.column_found header.now column.now }
 {
     match place_of(header, column.name.as_str()) {
-        Some(place) => Some(ColumnTaken {
+        Some(place) => Some(ColumnFound {
             kind: column.kind,
             place,
         }),
@@ -232,12 +232,12 @@ fn accepted_at(header: &[Txt], column: &Column) -> Option<ColumnTaken>
 }
 
 /// The columns that the header names, in the order of their names.
-pub fn columns_taken(
+pub fn columns_found(
     alloc: Global,
     columns: &[Column],
     header: &[Txt],
-) -> Result<Seq<ColumnTaken>, NoMemory>
-    ensures { IfOk result (λ accepted. accepted ≡ spec.columns_taken columns.now header.now) }
+) -> Result<Seq<ColumnFound>, NoMemory>
+    ensures { IfOk result (λ accepted. accepted ≡ spec.columns_found columns.now header.now) }
 {
     let mut accepted = Seq::new(alloc);
     for column in columns {

@@ -6,7 +6,7 @@ ghost use Rattle.sdb_data.specs.Tables as spec;
 
 use crate::fault::{CsvFault, CsvRefused, Mode};
 use crate::field::{Head, suits, value_at};
-use crate::header::{ColumnTaken, columns_taken, heads_of, named_row, names_fault, texts_of};
+use crate::header::{ColumnFound, columns_found, heads_of, named_row, names_fault, texts_of};
 use crate::records::{field_at, is_text, records_of};
 use csv::ByteRecord;
 use sdb_schema::Table;
@@ -44,7 +44,7 @@ fn record_fault(heads: &[Head], fields: &ByteRecord) -> Option<CsvFault>
 }
 
 // The values of a record, in the order of their columns' names.
-fn row_of(alloc: Global, accepted: &[ColumnTaken], fields: &ByteRecord) -> Result<Values, NoMemory>
+fn row_of(alloc: Global, accepted: &[ColumnFound], fields: &ByteRecord) -> Result<Values, NoMemory>
     ensures { IfOk result (λ row. row ≡ spec.row_of accepted.now (fields_of fields.now)) }
 {
     let mut row = Values::new(alloc);
@@ -59,7 +59,7 @@ fn add_rows(
     alloc: Global,
     rows: &mut Seq<Values>,
     heads: &[Head],
-    accepted: &[ColumnTaken],
+    accepted: &[ColumnFound],
     records: &[ByteRecord],
 ) -> Result<(), CsvRefused>
     requires { length records.now + 1 < 2 ^ 64 }
@@ -98,7 +98,7 @@ fn rows_under(
     ensures fault { IfErr result (spec.IsFirstFault (spec.fault_from (spec.heads_of table.now header.now) 2 (map fields_of records.now))) }
 {
     let heads = heads_of(alloc, table, header)?;
-    let accepted = columns_taken(alloc, table.columns.as_slice(), header)?;
+    let accepted = columns_found(alloc, table.columns.as_slice(), header)?;
     let mut rows = first_row(alloc, table, header)?;
     add_rows(
         alloc,

@@ -34,7 +34,7 @@ pub fn projected_names(
     }
 }
 
-fn value_shown(table: &Table, row: &Image, name: &Name) -> Result<Value, NoMemory>
+fn value_or_null(table: &Table, row: &Image, name: &Name) -> Result<Value, NoMemory>
     ensures { IfOk result (λ v. v ≡ value_of table.now row.now name.now) }
 {
     match value_at(table, row, name) {
@@ -54,7 +54,7 @@ pub fn observed(
 {
     let mut values = Values::new(alloc);
     for name in names {
-        values.push(value_shown(table, row, name)?)?;
+        values.push(value_or_null(table, row, name)?)?;
     }
     Ok(values)
 }

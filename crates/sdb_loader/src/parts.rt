@@ -14,7 +14,7 @@ use serde_json::{Map, Value};
 use std::alloc::Global;
 
 // The column that a string names.
-fn name_said(alloc: Global, value: &Value) -> Result<Option<Name>, NoMemory>
+fn name_in(alloc: Global, value: &Value) -> Result<Option<Name>, NoMemory>
     ensures { IfOk result (λ name. name ≡ name_given_lem (view value.now)) }
 {
     match value.as_str() {
@@ -24,7 +24,7 @@ fn name_said(alloc: Global, value: &Value) -> Result<Option<Name>, NoMemory>
 }
 
 // The clustering column that a string is.
-fn order_said(alloc: Global, value: &Value) -> Result<Option<Order>, NoMemory>
+fn order_in(alloc: Global, value: &Value) -> Result<Option<Order>, NoMemory>
     ensures { IfOk result (λ order. order ≡ order_given_lem (view value.now)) }
 {
     match value.as_str() {
@@ -57,7 +57,7 @@ fn names_among(alloc: Global, items: &[Value]) -> Result<Names, NoMemory>
 {
     let mut names = Seq::new(alloc);
     for item in items {
-        if let Some(name) = name_said(alloc, item)? {
+        if let Some(name) = name_in(alloc, item)? {
             names.push(name)?;
         }
     }
@@ -69,7 +69,7 @@ fn orders_among(alloc: Global, items: &[Value]) -> Result<Orders, NoMemory>
 {
     let mut orders = Seq::new(alloc);
     for item in items {
-        if let Some(order) = order_said(alloc, item)? {
+        if let Some(order) = order_in(alloc, item)? {
             orders.push(order)?;
         }
     }
@@ -91,7 +91,7 @@ pub fn orders_at(alloc: Global, value: &Value, member: &str) -> Result<Orders, N
 }
 
 // The column of a member that has a column's name and a kind.
-fn column_said(alloc: Global, name: &str, value: &Value) -> Result<Option<Column>, NoMemory>
+fn column_in(alloc: Global, name: &str, value: &Value) -> Result<Option<Column>, NoMemory>
     ensures { IfOk result (λ column. column ≡ column_given_lem name.now (view value.now)) }
 {
     match column_named(alloc, name)? {
@@ -105,7 +105,7 @@ fn columns_among(alloc: Global, members: &Map<String, Value>) -> Result<ColumnLi
 {
     let mut columns = Seq::new(alloc);
     for (name, value) in members {
-        if let Some(column) = column_said(alloc, name.as_str(), value)? {
+        if let Some(column) = column_in(alloc, name.as_str(), value)? {
             columns.push(column)?;
         }
     }

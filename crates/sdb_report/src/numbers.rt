@@ -76,7 +76,7 @@ fn negative(n: u64) -> i64
 }
 
 // The number with its sign, at most the longest.
-fn said_at(bytes: &[u8]) -> i64
+fn signed_at(bytes: &[u8]) -> i64
     ensures { result ≡ spec.number_at bytes.now }
 {
     match after(b"-", bytes) {
@@ -90,7 +90,7 @@ fn said_at(bytes: &[u8]) -> i64
 pub fn integer_at(bytes: &[u8]) -> Result<(i64, &[u8]), Unread>
     ensures { Gives (λ x. (x.0, x.1.now)) result (spec.integer_at bytes.now) }
 {
-    let n = said_at(bytes);
+    let n = signed_at(bytes);
     let mut digits = Buffer::new();
     let rest = expect(digits.format(n).as_bytes(), bytes)?;
     Ok((n, rest))

@@ -49,7 +49,7 @@ fn is_named(last: &Option<ScriptClient>, name: &Name) -> bool
 }
 
 // How many statements a client has, where there is one.
-fn said_by(last: &Option<ScriptClient>) -> usize
+fn statements_of_last(last: &Option<ScriptClient>) -> usize
     ensures { result ≡ last_count (option_to_list last.now) }
 {
     match last {
@@ -100,7 +100,7 @@ impl Blocks {
     pub fn statements(&self) -> usize
         ensures { result ≡ last_count self.now }
     {
-        said_by(&self.last)
+        statements_of_last(&self.last)
     }
 
     /// Begins a client's block.

@@ -15,7 +15,7 @@ use Rattle.sdb_schema.specs.Table.{checked_table, first_unknown, has_column, is_
 use Rattle.sdb_data.specs.declared.fault.CsvFault.TheVariants as fault
 use Rattle.sdb_data.specs.declared.fault.Mode.TheVariants as mode
 use Rattle.sdb_data.specs.Records.{csv_records}
-use Rattle.sdb_data.specs.Tables.{at_place, bad_place, fault_from, first_fault, header_fault, heads_of, in_record, is_named, missing_place, names_fault, not_text, nothing_to_set, other_length, read_rows, record_fault, repeat_place, row_of, rows_in, columns_taken, unknown_place}
+use Rattle.sdb_data.specs.Tables.{at_place, bad_place, fault_from, first_fault, header_fault, heads_of, in_record, is_named, missing_place, names_fault, not_text, nothing_to_set, other_length, read_rows, record_fault, repeat_place, row_of, rows_in, columns_found, unknown_place}
 use Rattle.sdb_data.proofs.Public.{has-partition, keys-known}
 use Rattle.sdb_model.specs.declared.statement.Statement.TheVariants as statement
 use Rattle.sdb_model.specs.declared.token.Keyword.TheVariants as word
@@ -260,7 +260,7 @@ abbrev pub IsReadAgain : Load → List Value → Type 0
 IsReadAgain load row = Reads (statement_text_of (row_statement load row)) (row_statement load row)
 
 records_read : (t : Table) (m : Mode) (header : List (List ℕ)) (records : List (List (List ℕ))) → is_table t ≡ true → has_short_name t ≡ true → IsHeader t m header → AllByRecursion (IsRecord t header) records
-    → AllByRecursion (IsReadAgain (record { mode = m; table = t; names = named_of header t.columns })) (map (row_of (columns_taken t.columns header)) records)
+    → AllByRecursion (IsReadAgain (record { mode = m; table = t; names = named_of header t.columns })) (map (row_of (columns_found t.columns header)) records)
 records_read t m header [] is short h rs = tt
 records_read t m header (r ∷ records) is short h rs = (row_read t m header r is short h rs.0, records_read t m header records is short h rs.1)
 
@@ -274,7 +274,7 @@ rows_read t m rows is short (text, read) =
     by [] h = absurd (cc)
     by (header ∷ records) h =
         let p = or_none (in_record 1 (header_fault t m header)) (fault_from (heads_of t header) 2 records) h in
-        subst (λ ns. AllByRecursion (IsReadAgain (record { mode = m; table = t; names = ns })) (map (row_of (columns_taken t.columns header)) records)) (sym (names_named header t.columns))
+        subst (λ ns. AllByRecursion (IsReadAgain (record { mode = m; table = t; names = ns })) (map (row_of (columns_found t.columns header)) records)) (sym (names_named header t.columns))
         (records_read t m header records is short (header_is t m header (map_none _ (header_fault t m header) p.0)) (records_are t header 2 records p.1))
 
 ---- all of a table

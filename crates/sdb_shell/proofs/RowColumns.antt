@@ -5,7 +5,7 @@ use Rattle.sdb_types.specs.Identifier.{is_identifier}
 use Rattle.std.specs.Option.{option_map, option_map_or}
 use Rattle.std.specs.List.{AllByRecursion, cons_option, list_all, list_any}
 use Rattle.std.proofs.lemmas.List.Quantifiers.{position-Some}
-use Rattle.sdb_shell.specs.Types.{Column, ColumnTaken, Head, Pair, Table, Value}
+use Rattle.sdb_shell.specs.Types.{Column, ColumnFound, Head, Pair, Table, Value}
 use Rattle.sdb_types.specs.declared.value.Value.TheVariants as value
 use Rattle.sdb_types.proofs.Public.{and_parts, none_before, or_second}
 use Rattle.sdb_record.specs.Names.{same_name}
@@ -14,7 +14,7 @@ use Rattle.sdb_record.proofs.Public.{same_name-true}
 use Rattle.sdb_schema.specs.declared.table.Kind.TheVariants as kind
 use Rattle.sdb_schema.specs.Table.{column_names, is_key_column, kind_in, rises}
 use Rattle.sdb_data.specs.Fields.{is_null_field, or_null, suits, value_at, value_in}
-use Rattle.sdb_data.specs.Tables.{bad_place, cell_of, head_of, heads_of, is_named, row_of, columns_taken}
+use Rattle.sdb_data.specs.Tables.{bad_place, cell_of, head_of, heads_of, is_named, row_of, columns_found}
 use Rattle.sdb_data.proofs.Public.{kinds}
 use Rattle.sdb_model.specs.declared.token.Token.TheVariants.{Name}
 use Rattle.sdb_model.specs.Sql.{CanSpell, HasItems, IsLiteral, IsValue, literal_token}
@@ -94,17 +94,17 @@ abbrev pub named_of : List (List ℕ) → List Column → List (List ℕ)
 named_of header cs = filter (is_named header) (column_names cs)
 
 abbrev pub values_of : List (List ℕ) → List (List ℕ) → List Column → List Value
-values_of header fields cs = row_of (columns_taken cs header) fields
+values_of header fields cs = row_of (columns_found cs header) fields
 
 -- one column before others: named at a place, or not
-abbrev taken_here : Column → Option ℕ → Option ColumnTaken
-taken_here c o = option_map (λ i. record { kind = c.kind; place = i }) o
+abbrev found_here : Column → Option ℕ → Option ColumnFound
+found_here c o = option_map (λ i. record { kind = c.kind; place = i }) o
 
 abbrev names_here : Column → Option ℕ → List (List ℕ) → List (List ℕ)
 names_here c o ns = cond (is_some o) (c.name ∷ ns) ns
 
-abbrev values_here : List (List ℕ) → Column → Option ℕ → List ColumnTaken → List Value
-values_here fields c o ts = map (cell_of fields) (cons_option (taken_here c o) ts)
+abbrev values_here : List (List ℕ) → Column → Option ℕ → List ColumnFound → List Value
+values_here fields c o ts = map (cell_of fields) (cons_option (found_here c o) ts)
 
 abbrev at_place : List (List ℕ) → Column → Option ℕ
 at_place header c = position (λ n. same_name n c.name) header
@@ -133,7 +133,7 @@ module _ (t : Table) (header fields : List (List ℕ)) (rising : rises t.columns
       subst (λ b. AllByRecursion (IsGood t) (pairs_of (cond b (c.name ∷ named_of header back) (named_of header back)) (values_of header fields (c ∷ back)))) (sym (named_is header c.name))
       (by (at_place header c) rest (pair_good front c back split p.0))
     where
-      by : (o : Option ℕ) → AllByRecursion (IsGood t) (pairs_of (named_of header back) (values_of header fields back)) → ((i : ℕ) → o ≡ Some i → IsGood t (pair_of c.name (value_at c.kind (get_or fields i [])))) → AllByRecursion (IsGood t) (pairs_of (names_here c o (named_of header back)) (values_here fields c o (columns_taken back header)))
+      by : (o : Option ℕ) → AllByRecursion (IsGood t) (pairs_of (named_of header back) (values_of header fields back)) → ((i : ℕ) → o ≡ Some i → IsGood t (pair_of c.name (value_at c.kind (get_or fields i [])))) → AllByRecursion (IsGood t) (pairs_of (names_here c o (named_of header back)) (values_here fields c o (columns_found back header)))
       by None rest good = rest
       by (Some i) rest good = (good i refl, rest)
 
@@ -143,7 +143,7 @@ as_many header fields [] = refl
 as_many header fields (c ∷ cs) =
     subst (λ b. length (cond b (c.name ∷ named_of header cs) (named_of header cs)) ≡ length (values_of header fields (c ∷ cs))) (sym (named_is header c.name)) (by (at_place header c) (as_many header fields cs))
   where
-    by : (o : Option ℕ) → length (named_of header cs) ≡ length (values_of header fields cs) → length (names_here c o (named_of header cs)) ≡ length (values_here fields c o (columns_taken cs header))
+    by : (o : Option ℕ) → length (named_of header cs) ≡ length (values_of header fields cs) → length (names_here c o (named_of header cs)) ≡ length (values_here fields c o (columns_found cs header))
     by None e = e
     by (Some i) e = let n : length (c.name ∷ named_of header cs) ≡ length (value_at c.kind (get_or fields i []) ∷ values_of header fields cs) = omega (arith, e) in n
 
@@ -166,7 +166,7 @@ has_set t header fields (c ∷ cs) h =
     rest : List Pair
     rest = pairs_of (named_of header cs) (values_of header fields cs)
 
-    by : (o : Option ℕ) (k : Bool) → is_key_column t c.name ≡ k → ((is_some o && not (is_key_column t c.name)) || list_any (λ (x : Column). is_named header x.name && not (is_key_column t x.name)) cs) ≡ true → (list_any (λ (x : Column). is_named header x.name && not (is_key_column t x.name)) cs ≡ true → HasItems (sets_of t rest)) → HasItems (sets_of t (pairs_of (names_here c o (named_of header cs)) (values_here fields c o (columns_taken cs header))))
+    by : (o : Option ℕ) (k : Bool) → is_key_column t c.name ≡ k → ((is_some o && not (is_key_column t c.name)) || list_any (λ (x : Column). is_named header x.name && not (is_key_column t x.name)) cs) ≡ true → (list_any (λ (x : Column). is_named header x.name && not (is_key_column t x.name)) cs ≡ true → HasItems (sets_of t rest)) → HasItems (sets_of t (pairs_of (names_here c o (named_of header cs)) (values_here fields c o (columns_found cs header))))
     by None k e g more = more g
     by (Some i) false e g more = subst (λ b. HasItems (cond (not b) (pair_of c.name (value_at c.kind (get_or fields i [])) ∷ sets_of t rest) (sets_of t rest))) (sym e) tt
     by (Some i) true e g more =

@@ -3,7 +3,7 @@ pub use Rattle.hex.specs.declared.error.FromHexError.{FromHexError}
 pub use Rattle.sdb_data.specs.declared.fault.CsvFault.{CsvFault}
 pub use Rattle.sdb_data.specs.declared.fault.Mode.{Mode}
 pub use Rattle.sdb_data.specs.declared.field.Head.{Head}
-pub use Rattle.sdb_data.specs.declared.header.ColumnTaken.{ColumnTaken}
+pub use Rattle.sdb_data.specs.declared.header.ColumnFound.{ColumnFound}
 pub use Rattle.sdb_model.specs.declared.answer.Answer.{Answer}
 pub use Rattle.sdb_model.specs.declared.answer.Refusal.{Refusal}
 pub use Rattle.sdb_model.specs.declared.statement.Insert.{Insert}

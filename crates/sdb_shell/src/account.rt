@@ -23,8 +23,8 @@ fn is_first(before: bool, now: bool) -> bool
     !before && now
 }
 
-// The id at hand after a statement, which began a transaction or not.
-fn next_hand<I: Ids>(fresh: TxId, began: bool, ids: &mut I) -> TxId
+// The next id after a statement, which began a transaction or not.
+fn next_fresh<I: Ids>(fresh: TxId, began: bool, ids: &mut I) -> TxId
     ensures { IsNextId began fresh result (I.answered ids.old) (I.answered ids.new) }
 {
     if began { drawn_id(ids.draw()) } else { fresh }
@@ -93,7 +93,7 @@ impl Session {
         let was_open = self.client.is_open();
         let answer = answer(&mut self.client, catalog, text, self.fresh, now, stores)?;
         let began = is_first(was_open, self.client.is_open());
-        self.fresh = next_hand(self.fresh, began, ids);
+        self.fresh = next_fresh(self.fresh, began, ids);
         Ok(answer)
     }
 }

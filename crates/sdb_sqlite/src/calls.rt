@@ -25,7 +25,7 @@ pub enum Written {
 }
 
 // The record of a key that the rows of a get's answer show.
-fn shown(alloc: Global, key: &Key, rows: &[Row]) -> Result<Option<Record>, Stopped>
+fn first_record(alloc: Global, key: &Key, rows: &[Row]) -> Result<Option<Record>, Stopped>
     ensures { IsDue (found_in key.now rows.now) result }
 {
     match rows {
@@ -45,7 +45,7 @@ fn found(
     ensures { IsDue (found_by key.now (rows_of answer)) result }
 {
     match answer {
-        Ok(rows) => shown(alloc, key, &rows),
+        Ok(rows) => first_record(alloc, key, &rows),
         Err(error) => Err(Stopped::from(error)),
     }
 }

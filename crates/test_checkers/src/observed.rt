@@ -86,6 +86,6 @@ static ROWS: [Judged; 15] = [
 ];
 
 #[test]
-fn rows_are_shown_or_forged(rt: HostRuntime) -> Result<(), Fail> {
+fn rows_are_observed_or_forged(rt: HostRuntime) -> Result<(), Fail> {
     all_cases(rt.alloc(), "rows", ROWS.as_slice())
 }

@@ -41,7 +41,7 @@ pub enum Asked {
 #[derive(Clone, Copy)]
 pub struct Judged(pub Asked, pub &'static str, pub bool);
 
-fn are_shown(alloc: Global, catalog: &Catalog, events: &[Event]) -> Result<bool, Fail> {
+fn are_observed(alloc: Global, catalog: &Catalog, events: &[Event]) -> Result<bool, Fail> {
     let stores = stores_of(alloc, events)?;
     Ok(have_no_dirty_reads(alloc, catalog, events, &stores)?)
 }
@@ -63,7 +63,7 @@ fn are_kept(alloc: Global, catalog: &Catalog, events: &[Event]) -> Result<bool, 
     Ok(
         answers_have_causes(alloc, catalog, events)?
             && are_rolled(alloc, catalog, events, true, true)?
-            && are_shown(alloc, catalog, events)?,
+            && are_observed(alloc, catalog, events)?,
     )
 }
 
@@ -82,7 +82,7 @@ fn answered(
 ) -> Result<bool, Fail> {
     match asked {
         Asked::Caused => Ok(answers_have_causes(alloc, catalog, events)?),
-        Asked::Shown => are_shown(alloc, catalog, events),
+        Asked::Shown => are_observed(alloc, catalog, events),
         Asked::Rolled(counted, resolved) => are_rolled(alloc, catalog, events, counted, resolved),
         Asked::Broken(count) => Ok(broken_in(events) == count),
         Asked::Kept | Asked::KeptInShop => are_kept(alloc, catalog, events),

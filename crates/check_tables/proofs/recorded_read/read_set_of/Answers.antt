@@ -16,7 +16,7 @@ returns c =
     let events = c.args.events.now in
     let client = c.client_of-client.result in
     let f : ℕ → List Executed → List ReadItem = λ n ss. flat_map (λ s. read_items (calls_of events n s)) (filter (has_read events n) ss) in
-    c.in_ok-add_all_said.ensures ∙ ap (λ (ns : List Found). all_items ns ++ flat_map (λ s. items_of_statement events client (executed_of s)) c.in_ok-inside.inside.now) c.new-read_set.ensures
+    c.in_ok-add_all_executed.ensures ∙ ap (λ (ns : List Found). all_items ns ++ flat_map (λ s. items_of_statement events client (executed_of s)) c.in_ok-inside.inside.now) c.new-read_set.ensures
     ∙ all_noted events client c.in_ok-inside.inside.now ∙ ap (f client) c.in_ok-inside.ensures
     ∙ ap (λ (ss : List Plain). f client (inside_among (all_executed ss) c.ordinal_of.result)) c.as_slice.ensures
     ∙ ap (λ (ss : List Executed). f client (inside_among ss c.ordinal_of.result)) c.in_ok-all.ensures

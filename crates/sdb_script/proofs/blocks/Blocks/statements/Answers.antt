@@ -4,4 +4,4 @@ use Rattle.sdb_script.proofs.BlockLaws.{count_of_last}
 use Rattle.sdb_script.proofs.blocks.Blocks.statements.Goals as goal
 
 pub returns : goal.returns
-returns c = c.said_by.ensures ∙ count_of_last c.self.inside.ended c.self.inside.last c.self.invariant.1 ∙ ap last_count c.self.view_is
+returns c = c.statements_of_last.ensures ∙ count_of_last c.self.inside.ended c.self.inside.last c.self.invariant.1 ∙ ap last_count c.self.view_is

@@ -5,7 +5,7 @@ use Rattle.check_answers.proofs.Decided.{if_ok}
 use Rattle.check_answers.specs.Rows.{answer_is_of}
 use Rattle.check_answers.specs.Turns.{AreTurns}
 use Rattle.check_answers.proofs.AnswerLaws.{transaction}
-use Rattle.check_answers.proofs.all.is_transaction_shown.Goals as goal
+use Rattle.check_answers.proofs.all.is_transaction_observed.Goals as goal
 
 pub returns : goal.returns
 returns c =
