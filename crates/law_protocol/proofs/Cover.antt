@@ -7,7 +7,7 @@ use Rattle.law_protocol.specs.Plan.{Plan, written}
 use Rattle.law_protocol.specs.History.{Action, Other, Begins, Takes, Prepares, Checks, Decides, Aborts, Rolls, Removes, Ends, Stops, Ack, History, start, happens, shadow, IsWriter, Covers}
 use Rattle.law_protocol.proofs.Allowed.{Allowed}
 use Rattle.law_protocol.proofs.Small.{PointOk, TakenOk, AskedOk, TookOk, BegunOk, ApartOk, DecidedOk, HeardOk, FirmOk, HeldOk, BaseOk, NotedOk, GoneOk, StandsOk, point_kept, taken_kept, asked_kept, took_kept, begun_kept, apart_kept, decided_ok, heard_kept, firm_kept, held_kept, base_kept, noted_kept, gone_kept, stands_kept, earlier_kept, removed_kept, point_fixed}
-use Rattle.law_protocol.proofs.Shadow.{shadow_writer, shadow_prepare, shadow_roll, shadow_remove, shadow_abort, UnderOk, OverOk, SawOk, under_kept, over_kept, saw_kept}
+use Rattle.law_protocol.proofs.Shadow.{shadow_writer, shadow_prepare, shadow_roll, shadow_remove, shadow_abort, UnderOk, OverOk, under_kept, over_kept}
 use Rattle.law_protocol.specs.Explained.{EarlierPrepareHadRow, RemovedBeforeBegin}
 
 abbrev pub CoverOk : (ℕ → Plan) → History → Type 0
@@ -33,7 +33,6 @@ pub record Inv (plan : ℕ → Plan) (w : History) : Type 0 where
   pub removed : RemovedBeforeBegin w
   pub under : UnderOk plan w
   pub over : OverOk plan w
-  pub saw : SawOk plan w
   pub cover : CoverOk plan w
 
 pub writer_of : (plan : ℕ → Plan) (w : History) (k : Key) (u : ℕ) → Inv plan w → shadow plan w k ≡ Some u → IsWriter plan w k u
@@ -100,7 +99,7 @@ cover_decide plan w t0 word done i a t k h = elim (decide_row plan w t0 word don
 
 pub cover_kept : (plan : ℕ → Plan) (w : History) (r : Action) (done : Bool) → Inv plan w → Allowed plan w r done → CoverOk plan (happens plan w r done)
 cover_kept plan w (Takes t) done i a = cover_other plan w (Takes t) done i a (λ k. refl) (λ t r. r)
-cover_kept plan w (Prepares t k word) done i a = cover_other plan w (Prepares t k word) done i a (λ key. shadow_prepare plan w t k key word done i.firm i.accepted i.base a (λ h. (i.decided t h).stage)) (λ t r. r)
+cover_kept plan w (Prepares t k word) done i a = cover_other plan w (Prepares t k word) done i a (λ key. shadow_prepare plan w t k key word done i.firm i.accepted i.base a (λ h. ((i.decided t h).stage, (i.decided t h).answered))) (λ t r. r)
 cover_kept plan w (Decides t word) done i a = cover_decide plan w t word done i a
 cover_kept plan w (Aborts t m word) done i a = cover_abort plan w t m word done i a
 cover_kept plan w (Rolls t k d) done i a = cover_other plan w (Rolls t k d) done i a (λ key. shadow_roll plan w t k key d done a) (λ t r. r)
@@ -129,9 +128,8 @@ inv_kept plan w r done i a = record {
   agrees = stands_kept plan w r done i.agrees i.took_effect a;
   earlier = earlier_kept plan w r done i.earlier i.agrees i.took_effect i.heard a;
   removed = removed_kept plan w r done i.removed i.gone i.heard a;
-  under = under_kept plan w r done i.under i.firm i.base i.accepted i.agrees (λ t h. (i.decided t h).stage) a;
+  under = under_kept plan w r done i.under i.firm i.base i.accepted i.agrees (λ t h. ((i.decided t h).stage, (i.decided t h).answered)) a;
   over = over_kept plan w r done i.over (λ k u. writer_of plan w k u i) i.heard a;
-  saw = saw_kept plan w r done i.saw i.over i.accepted i.begun i.gone i.removed a;
   cover = cover_kept plan w r done i a;
 }
 
@@ -155,6 +153,5 @@ inv_start plan = record {
   removed = λ t k u h l. absurd (cc);
   under = λ t k h n. refl;
   over = λ t k u h e. absurd (cc);
-  saw = λ t k h. absurd (cc);
   cover = λ t k h. absurd (grind (arith, h));
 }

@@ -273,7 +273,7 @@ current_write plan w t k i h = current plan w t k (base_of (written (plan t) k))
     own = writer_took plan w k t i.one h
 
     seen : IsSeen plan w t k (base_of (written (plan t) k)) (w.prepared_at t k) (w.under t k)
-    seen = i.writes t k own.0
+    seen = i.writes t k ((i.one.decided t h.0).answered k h.1)
 
     below : (u : ℕ) → w.protocol.point u < w.decided_at u → w.decided_at u < w.prepared_at t k → w.prepared_at t k ≤ w.protocol.point t → w.protocol.point u < w.protocol.point t
     below u a b c = omega arith

@@ -136,9 +136,7 @@ prepare_moves plan places w past e before now t k word done knows held effect is
     record {
       allowed = (
         alive.0,
-        alive.1,
-        subst (λ (x : ProtocolState). x.stage t ≡ Rattle.law_protocol.specs.History.Preparing) knows.talks m.stage,
-        one_of (λ q. w.protocol.asked t q ≡ false) k (subst (λ (x : ProtocolState). x.asked t k ≡ false) knows.talks m.once),
+        inl (alive.1, subst (λ (x : ProtocolState). x.stage t ≡ Rattle.law_protocol.specs.History.Preparing) knows.talks m.stage, one_of (λ q. w.protocol.asked t q ≡ false) k (subst (λ (x : ProtocolState). x.asked t k ≡ false) knows.talks m.once)),
         one_of (λ q. written (plan t) q ≢ None) k writes,
         λ d. one_of (λ q. has_version (w.rows q) (base_of (written (plan t) q)) ≡ true) k (version_stands plan w past k v knows fits (subst (λ (x : Condition). holds x (option_map (record_for plan k) (w.rows k)) ≡ true) same (subst (λ x. holds c x ≡ true) (held.records k outside) (pc.changed.held d).0))),
         λ y. pc.applied (yes_is word m.r m.word_is y),
@@ -222,7 +220,7 @@ decide_moves plan places w past e before now t word done knows held effect is m 
     record {
       allowed = (
         alive.0,
-        alive.1,
+        inl alive.1,
         subst (λ (x : ProtocolState). IsPrepared plan x t) knows.talks m.prepared,
         λ i k v n h. subst (λ (x : ProtocolState). x.checked t i ≡ true) knows.talks (m.checked i k v n h),
         m.agrees,

@@ -5,12 +5,12 @@ use Rattle.std.specs.Prelude.{◌==◌, if◌then◌else◌}
 use Rattle.law_protocol.specs.Types.{Decision, Key}
 use Rattle.sdb_record.specs.declared.coordinator.Decision.TheVariants.{Committed}
 use Rattle.law_protocol.specs.Plan.{Plan, written, version_read_at}
-use Rattle.law_protocol.specs.History.{Action, Other, Begins, Takes, Prepares, Checks, Decides, Aborts, Rolls, Removes, Ends, Stops, Ack, Preparing, History, start, at, Held, base_of, has_version, happens, shadow, IsWriter, IsLive, Covers}
+use Rattle.law_protocol.specs.History.{Action, Other, Begins, Takes, Prepares, Checks, Decides, Aborts, Rolls, Removes, Ends, Stops, Ack, Preparing, History, start, at, Held, base_of, has_version, happens, has_key, shadow, IsWriter, IsLive, Covers}
 use Rattle.law_protocol.specs.Trace.{after_end}
 use Rattle.sdb_types.proofs.Public.{clash, tests}
-use Rattle.law_protocol.proofs.Allowed.{Allowed}
+use Rattle.law_protocol.proofs.Allowed.{Allowed, at_one}
 use Rattle.law_protocol.proofs.Small.{IsDecided, PointOk, TookOk, decided_kept, writer_kept, point_fixed}
-use Rattle.law_protocol.proofs.Shadow.{saw_same, saw_now, at_prepare, begun_stays, took_taken}
+use Rattle.law_protocol.proofs.Shadow.{saw_same, saw_now, begun_stays, took_taken}
 use Rattle.law_protocol.proofs.Cover.{Inv, inv_kept, inv_start, writer_of, covers_same}
 use Rattle.law_protocol.specs.Explained.{IsAsFound as Saw}
 
@@ -78,7 +78,7 @@ abbrev pub ReadsOk : (ℕ → Plan) → History → Type 0
 ReadsOk plan w = (t i : ℕ) (k : Key) (found : Option ℕ) → w.protocol.checked t i ≡ true → version_read_at (plan t) i k ≡ Some found → written (plan t) k ≡ None → IsSeen plan w t k found (w.checked_at t i) (w.basis t i k)
 
 abbrev pub WritesOk : (ℕ → Plan) → History → Type 0
-WritesOk plan w = (t : ℕ) (k : Key) → w.took_effect t k ≡ true → IsSeen plan w t k (base_of (written (plan t) k)) (w.prepared_at t k) (w.under t k)
+WritesOk plan w = (t : ℕ) (k : Key) → w.protocol.answered t k ≡ true → IsSeen plan w t k (base_of (written (plan t) k)) (w.prepared_at t k) (w.under t k)
 
 at_check : (plan : ℕ → Plan) (w : History) (t0 i0 : ℕ) (done : Bool) (t i : ℕ) (k : Key) → (happens plan w (Checks t0 i0) done).protocol.checked t i ≡ true
     → ((t ≡ t0) × (i ≡ i0) × ((happens plan w (Checks t0 i0) done).checked_at t i ≡ w.protocol.now + 1) × ((happens plan w (Checks t0 i0) done).basis t i k ≡ shadow plan w k))
@@ -116,15 +116,24 @@ reads_kept plan w (Removes k t) done j ok checked a = reads_other plan w (Remove
 reads_kept plan w (Ends t) done j ok checked a = reads_other plan w (Ends t) done j ok checked a (λ t i. refl) (λ t i. refl) (λ t i k. refl)
 reads_kept plan w (Stops c) done j ok checked a = reads_other plan w (Stops c) done j ok checked a (λ t i. refl) (λ t i. refl) (λ t i k. refl)
 
-writes_old : (plan : ℕ → Plan) (w : History) (r : Action) (done : Bool) (t : ℕ) (k : Key) → Inv plan w → WritesOk plan w → Allowed plan w r done → w.took_effect t k ≡ true → IsSeen plan (happens plan w r done) t k (base_of (written (plan t) k)) (w.prepared_at t k) (w.under t k)
-writes_old plan w r done t k j ok a h = seen_kept plan w r done t k (base_of (written (plan t) k)) (w.prepared_at t k) (w.under t k) j a (took_taken w t k j.accepted h) (over ((j.took_effect t k).0 h).1) (ok t k h)
+writes_old : (plan : ℕ → Plan) (w : History) (r : Action) (done : Bool) (t : ℕ) (k : Key) → Inv plan w → WritesOk plan w → Allowed plan w r done → w.protocol.answered t k ≡ true → IsSeen plan (happens plan w r done) t k (base_of (written (plan t) k)) (w.prepared_at t k) (w.under t k)
+writes_old plan w r done t k j ok a h = seen_kept plan w r done t k (base_of (written (plan t) k)) (w.prepared_at t k) (w.under t k) j a (took_taken w t k j.accepted took_effect) (over ((j.took_effect t k).0 took_effect).1) (ok t k h)
   where
+    took_effect : w.took_effect t k ≡ true
+    took_effect = ((j.took_effect t k).1 h).0
+
     over : w.prepared_at t k ≤ w.protocol.now → w.prepared_at t k ≤ w.protocol.now + 1
     over l = omega arith
 
+-- a prepare that is acknowledged now was made by a client that hasn't stopped
+at_answer : (plan : ℕ → Plan) (w : History) (t0 : ℕ) (k0 : List Key) (word : Ack) (done : Bool) (t : ℕ) (k : Key) → Allowed plan w (Prepares t0 k0 word) done → (happens plan w (Prepares t0 k0 word) done).protocol.answered t k ≡ true
+    → ((t ≡ t0) × (has_key k0 k ≡ true) × (done ≡ true) × IsLive w.protocol t0 × ((happens plan w (Prepares t0 k0 word) done).under t k ≡ shadow plan w k) × ((happens plan w (Prepares t0 k0 word) done).prepared_at t k ≡ w.protocol.now + 1))
+    ⊎ ((w.protocol.answered t k ≡ true) × ((happens plan w (Prepares t0 k0 word) done).under t k ≡ w.under t k) × ((happens plan w (Prepares t0 k0 word) done).prepared_at t k ≡ w.prepared_at t k))
+at_answer plan w t0 k0 word done t k a h = grind (arith, tests, at_one plan w (Prepares t0 k0 word) done k a)
+
 writes_prepare : (plan : ℕ → Plan) (w : History) (t0 : ℕ) (k0 : List Key) (word : Ack) (done : Bool) → Inv plan w → WritesOk plan w → Allowed plan w (Prepares t0 k0 word) done → WritesOk plan (happens plan w (Prepares t0 k0 word) done)
-writes_prepare plan w t0 k0 word done j ok a t k h = elim (at_prepare plan w t0 k0 word done t k h) [
-  | inl x ↦ rw x.4 (rw x.3 (rw x.0 (seen_kept plan w (Prepares t0 k0 word) done t0 k (base_of (written (plan t0) k)) (w.protocol.now + 1) (shadow plan w k) j a a.0 (omega arith) (seen_now plan w t0 k (base_of (written (plan t0) k)) j a.1 (a.5 x.2 k x.1)))))
+writes_prepare plan w t0 k0 word done j ok a t k h = elim (at_answer plan w t0 k0 word done t k a h) [
+  | inl x ↦ rw x.5 (rw x.4 (rw x.0 (seen_kept plan w (Prepares t0 k0 word) done t0 k (base_of (written (plan t0) k)) (w.protocol.now + 1) (shadow plan w k) j a a.0 (omega arith) (seen_now plan w t0 k (base_of (written (plan t0) k)) j x.3 (a.3 x.2 k x.1)))))
   | inr x ↦ rw x.2 (rw x.1 (writes_old plan w (Prepares t0 k0 word) done t k j ok a x.0))
 ]
 
@@ -207,7 +216,6 @@ inv_closed plan w t i = record {
   removed = λ u k v gone live. i.removed u k v gone (open_before w.protocol.is_open t u live.0, live.1);
   under = i.under;
   over = i.over;
-  saw = i.saw;
   cover = i.cover;
 }
 

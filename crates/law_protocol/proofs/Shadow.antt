@@ -4,8 +4,8 @@ use Rattle.law_protocol.specs.Types.{Decision, Key}
 use Rattle.sdb_types.proofs.Public.{tests}
 use Rattle.sdb_record.specs.declared.coordinator.Decision.TheVariants.{Committed}
 use Rattle.law_protocol.specs.Plan.{Plan, written}
-use Rattle.law_protocol.specs.History.{Action, Other, Begins, Takes, Prepares, Checks, Decides, Aborts, Rolls, Removes, Ends, Stops, Ack, Deciding, History, Final, Held, base_of, has_key, has_version, happens, Standing, image_in, or_else, shadow, IsLive, IsWriter}
-use Rattle.law_protocol.proofs.Allowed.{Allowed, at_one}
+use Rattle.law_protocol.specs.History.{Action, Other, Begins, Takes, Prepares, Checks, Decides, Aborts, Rolls, Removes, Ends, Stops, Ack, Deciding, History, Final, Held, base_of, has_key, has_version, happens, Standing, image_in, or_else, shadow, IsLive, IsWriter, IsPrepared}
+use Rattle.law_protocol.proofs.Allowed.{Allowed, IsUnanswered, at_one}
 use Rattle.law_protocol.proofs.Small.{writer_kept, decided_kept, TakenOk, AskedOk, TookOk, BegunOk, HeardOk, FirmOk, HeldOk, BaseOk, GoneOk, StandsOk}
 use Rattle.law_protocol.specs.Explained.{IsAsFound as Saw, RemovedBeforeBegin}
 
@@ -20,8 +20,16 @@ shadow_writer plan w k u firm held base gone took_effect accepted asked h = over
     over (Some (Final t)) e h = grind (arith, firm k t)
     over (Some (Held t)) e h = grind (arith, held_taken plan w k t held took_effect accepted asked, base t k u)
 
-pub shadow_prepare : (plan : ℕ → Plan) (w : History) (t : ℕ) (ks : List Key) (key : Key) (word : Ack) (done : Bool) → FirmOk plan w → TakenOk w → BaseOk plan w → Allowed plan w (Prepares t ks word) done → (w.row t ≡ Some Committed → w.protocol.stage t ≡ Deciding) → shadow plan (happens plan w (Prepares t ks word) done) key ≡ shadow plan w key
-shadow_prepare plan w t ks key word done firm accepted base a stage = grind (arith, tests, firm key, base t key, at_one plan w (Prepares t ks word) done key a)
+-- a recorded transaction prepares nothing
+unrecorded : (plan : ℕ → Plan) (w : History) (t : ℕ) (ks : List Key) (key : Key) (word : Ack) (done : Bool) → Allowed plan w (Prepares t ks word) done → (w.row t ≡ Some Committed → (w.protocol.stage t ≡ Deciding) × IsPrepared plan w.protocol t) → has_key ks key ≡ true → w.row t ≢ Some Committed
+unrecorded plan w t ks key word done a ready h r = by (at_one plan w (Prepares t ks word) done key a h).0 (ready r).0 ((ready r).1 key (a.2 key h))
+  where
+    by : IsUnanswered w.protocol t word key → w.protocol.stage t ≡ Deciding → w.protocol.answered t key ≡ true → ⊥
+    by (inl first) stage answered = cc (stage, first.1)
+    by (inr late) stage answered = cc (answered, late.1)
+
+pub shadow_prepare : (plan : ℕ → Plan) (w : History) (t : ℕ) (ks : List Key) (key : Key) (word : Ack) (done : Bool) → FirmOk plan w → TakenOk w → BaseOk plan w → Allowed plan w (Prepares t ks word) done → (w.row t ≡ Some Committed → (w.protocol.stage t ≡ Deciding) × IsPrepared plan w.protocol t) → shadow plan (happens plan w (Prepares t ks word) done) key ≡ shadow plan w key
+shadow_prepare plan w t ks key word done firm accepted base a ready = grind (arith, tests, firm key, base t key, at_one plan w (Prepares t ks word) done key a, unrecorded plan w t ks key word done a ready)
 
 pub shadow_roll : (plan : ℕ → Plan) (w : History) (t : ℕ) (ks : List Key) (key : Key) (d : Decision) (done : Bool) → Allowed plan w (Rolls t ks d) done → shadow plan (happens plan w (Rolls t ks d) done) key ≡ shadow plan w key
 shadow_roll plan w t ks key d done a = grind (arith, tests, at_one plan w (Rolls t ks d) done key a)
@@ -36,7 +44,7 @@ shadow_abort plan w t key m word done a = grind (arith, tests)
 abbrev pub UnderOk : (ℕ → Plan) → History → Type 0
 UnderOk plan w = (t : ℕ) (k : Key) → w.took_effect t k ≡ true → w.row t ≡ None → shadow plan w k ≡ w.under t k
 
-under_prepare : (plan : ℕ → Plan) (w : History) (t0 : ℕ) (k0 : List Key) (word : Ack) (done : Bool) → UnderOk plan w → FirmOk plan w → TakenOk w → BaseOk plan w → (w.row t0 ≡ Some Committed → w.protocol.stage t0 ≡ Deciding) → Allowed plan w (Prepares t0 k0 word) done → UnderOk plan (happens plan w (Prepares t0 k0 word) done)
+under_prepare : (plan : ℕ → Plan) (w : History) (t0 : ℕ) (k0 : List Key) (word : Ack) (done : Bool) → UnderOk plan w → FirmOk plan w → TakenOk w → BaseOk plan w → (w.row t0 ≡ Some Committed → (w.protocol.stage t0 ≡ Deciding) × IsPrepared plan w.protocol t0) → Allowed plan w (Prepares t0 k0 word) done → UnderOk plan (happens plan w (Prepares t0 k0 word) done)
 under_prepare plan w t0 k0 word done ok firm accepted base stage a t k h n =
     shadow_prepare plan w t0 k0 k word done firm accepted base a stage ∙ now w t0 k0 word done t k h (λ h'. ok t k h' n)
   where
@@ -49,7 +57,7 @@ under_decide plan w t0 word done ok agrees t k h n = grind (arith, tests, ok t k
 under_abort : (plan : ℕ → Plan) (w : History) (t0 : ℕ) (m : ℤ) (word : Ack) (done : Bool) → UnderOk plan w → Allowed plan w (Aborts t0 m word) done → UnderOk plan (happens plan w (Aborts t0 m word) done)
 under_abort plan w t0 m word done ok a t k h n = grind (arith, tests, ok t k)
 
-pub under_kept : (plan : ℕ → Plan) (w : History) (r : Action) (done : Bool) → UnderOk plan w → FirmOk plan w → BaseOk plan w → TakenOk w → StandsOk w → ((t : ℕ) → w.row t ≡ Some Committed → w.protocol.stage t ≡ Deciding) → Allowed plan w r done → UnderOk plan (happens plan w r done)
+pub under_kept : (plan : ℕ → Plan) (w : History) (r : Action) (done : Bool) → UnderOk plan w → FirmOk plan w → BaseOk plan w → TakenOk w → StandsOk w → ((t : ℕ) → w.row t ≡ Some Committed → (w.protocol.stage t ≡ Deciding) × IsPrepared plan w.protocol t) → Allowed plan w r done → UnderOk plan (happens plan w r done)
 under_kept plan w (Prepares t k word) done ok firm base accepted agrees stage a = under_prepare plan w t k word done ok firm accepted base (stage t) a
 under_kept plan w (Decides t word) done ok firm base accepted agrees stage a = under_decide plan w t word done ok agrees
 under_kept plan w (Aborts t m word) done ok firm base accepted agrees stage a = under_abort plan w t m word done ok a
@@ -68,9 +76,6 @@ saw_now plan w t k found gone removed live h = grind (arith, tests, gone k, remo
 -- What was shown under a prepare was written by a transaction recorded before it.
 abbrev pub OverOk : (ℕ → Plan) → History → Type 0
 OverOk plan w = (t : ℕ) (k : Key) (u : ℕ) → w.took_effect t k ≡ true → w.under t k ≡ Some u → IsWriter plan w k u × (w.decided_at u < w.prepared_at t k)
-
-abbrev pub SawOk : (ℕ → Plan) → History → Type 0
-SawOk plan w = (t : ℕ) (k : Key) → w.took_effect t k ≡ true → Saw plan w t k (base_of (written (plan t) k)) (w.under t k)
 
 pub at_prepare : (plan : ℕ → Plan) (w : History) (t0 : ℕ) (k0 : List Key) (word : Ack) (done : Bool) (t : ℕ) (k : Key) → (happens plan w (Prepares t0 k0 word) done).took_effect t k ≡ true
     → ((t ≡ t0) × (has_key k0 k ≡ true) × (done ≡ true) × ((happens plan w (Prepares t0 k0 word) done).under t k ≡ shadow plan w k) × ((happens plan w (Prepares t0 k0 word) done).prepared_at t k ≡ w.protocol.now + 1))
@@ -125,38 +130,3 @@ begun_stays plan w r done t ok h a = grind (arith, tests, ok t)
 
 pub took_taken : (w : History) (t : ℕ) (k : Key) → TakenOk w → w.took_effect t k ≡ true → w.protocol.accepted t ≡ true
 took_taken w t k ok h = grind (arith, ok t k 0)
-
-saw_stays : (plan : ℕ → Plan) (w : History) (r : Action) (done : Bool) (t : ℕ) (k : Key) → SawOk plan w → OverOk plan w → TakenOk w → BegunOk w → Allowed plan w r done → w.took_effect t k ≡ true → Saw plan (happens plan w r done) t k (base_of (written (plan t) k)) (w.under t k)
-saw_stays plan w r done t k ok over accepted begun a h =
-    saw_same plan w (happens plan w r done) t k (base_of (written (plan t) k)) (w.under t k) (begun_stays plan w r done t begun (took_taken w t k accepted h) a) (λ u e. stays u (over t k u h e).0) (ok t k h)
-  where
-    stays : (u : ℕ) → IsWriter plan w k u → (happens plan w r done).decided_at u ≡ w.decided_at u
-    stays u x = grind (arith, decided_kept plan w r done u a, x)
-
-saw_prepare : (plan : ℕ → Plan) (w : History) (t0 : ℕ) (k0 : List Key) (word : Ack) (done : Bool) → SawOk plan w → GoneOk plan w → RemovedBeforeBegin w → Allowed plan w (Prepares t0 k0 word) done → SawOk plan (happens plan w (Prepares t0 k0 word) done)
-saw_prepare plan w t0 k0 word done ok gone removed a t k h =
-    saw_join plan w (happens plan w (Prepares t0 k0 word) done) t0 k0 done t k (at_prepare plan w t0 k0 word done t k h) (λ d q. saw_now plan w t0 k (base_of (written (plan t0) k)) gone removed a.1 (a.5 d k q)) (ok t k) (λ u. refl) (λ u. refl)
-  where
-    saw_join : (plan : ℕ → Plan) (w v : History) (t0 : ℕ) (k0 : List Key) (done : Bool) (t : ℕ) (k : Key)
-        → ((t ≡ t0) × (has_key k0 k ≡ true) × (done ≡ true) × (v.under t k ≡ shadow plan w k) × (v.prepared_at t k ≡ w.protocol.now + 1)) ⊎ ((w.took_effect t k ≡ true) × (v.under t k ≡ w.under t k) × (v.prepared_at t k ≡ w.prepared_at t k))
-        → (done ≡ true → has_key k0 k ≡ true → Saw plan w t0 k (base_of (written (plan t0) k)) (shadow plan w k))
-        → (w.took_effect t k ≡ true → Saw plan w t k (base_of (written (plan t) k)) (w.under t k))
-        → ((u : ℕ) → v.decided_at u ≡ w.decided_at u) → ((u : ℕ) → v.protocol.begun u ≡ w.protocol.begun u)
-        → Saw plan v t k (base_of (written (plan t) k)) (v.under t k)
-    saw_join plan w v t0 k0 done t k c now ok sd sb = elim c [
-      | inl x ↦ rw x.3 (rw x.0 (saw_same plan w v t0 k (base_of (written (plan t0) k)) (shadow plan w k) (sb t0) (λ u e. sd u) (now x.2 x.1)))
-      | inr x ↦ rw x.1 (saw_same plan w v t k (base_of (written (plan t) k)) (w.under t k) (sb t) (λ u e. sd u) (ok x.0))
-    ]
-
-pub saw_kept : (plan : ℕ → Plan) (w : History) (r : Action) (done : Bool) → SawOk plan w → OverOk plan w → TakenOk w → BegunOk w → GoneOk plan w → RemovedBeforeBegin w → Allowed plan w r done → SawOk plan (happens plan w r done)
-saw_kept plan w (Prepares t k word) done ok over accepted begun gone removed a = saw_prepare plan w t k word done ok gone removed a
-saw_kept plan w (Decides u word) done ok over accepted begun gone removed a = λ t k h. saw_stays plan w (Decides u word) done t k ok over accepted begun a h
-saw_kept plan w (Aborts u m word) done ok over accepted begun gone removed a = λ t k h. saw_stays plan w (Aborts u m word) done t k ok over accepted begun a h
-saw_kept plan w (Begins u c) done ok over accepted begun gone removed a = λ t k h. saw_stays plan w (Begins u c) done t k ok over accepted begun a h
-saw_kept plan w Other done ok over accepted begun gone removed a = ok
-saw_kept plan w (Takes t) done ok over accepted begun gone removed a = ok
-saw_kept plan w (Checks t i) done ok over accepted begun gone removed a = ok
-saw_kept plan w (Rolls t k d) done ok over accepted begun gone removed a = ok
-saw_kept plan w (Removes k t) done ok over accepted begun gone removed a = ok
-saw_kept plan w (Ends t) done ok over accepted begun gone removed a = ok
-saw_kept plan w (Stops c) done ok over accepted begun gone removed a = ok

@@ -143,7 +143,7 @@ stood_before plan places opening past p ss s t ks k word r action among done =
     let w = history plan places opening past ss in
     let m = moves plan places w past p.event (closing opening ss) s p.action true i.knows i.held r.traced.1 done r.lawful.1 in
     let a : Allowed plan (history plan places opening past ss) (Prepares t ks word) true = subst (λ x. Allowed plan (history plan places opening past ss) x true) action m.allowed in
-    i.held.records k (outside i.knows a.0 (a.4 k among)) ∙ ap (option_map (record_for plan k)) (is_firm (w.rows k) (base_of (written (plan t) k)) (a.5 refl k among)) ∙ firm_for (base_of (written (plan t) k)) ∙ sym (held_before plan t k (i.knows.planned t a.0) (a.4 k among))
+    i.held.records k (outside i.knows a.0 (a.2 k among)) ∙ ap (option_map (record_for plan k)) (is_firm (w.rows k) (base_of (written (plan t) k)) (a.3 refl k among)) ∙ firm_for (base_of (written (plan t) k)) ∙ sym (held_before plan t k (i.knows.planned t a.0) (a.2 k among))
   where
     outside : Knows plan (history plan places opening past ss) past → (history plan places opening past ss).protocol.accepted t ≡ true → written (plan t) k ≢ None → is_data k ≡ true
     outside knows accepted writes = ((knows.planned t accepted).write k (Rattle.law_protocol.specs.Records.write_there (plan t) k) (Rattle.law_protocol.proofs.Known.writes_it (plan t) k writes)).1

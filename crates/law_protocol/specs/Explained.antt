@@ -141,9 +141,9 @@ pub record SawLast (plan : ℕ → Plan) (w : History) (t : ℕ) (k : Key) (foun
 abbrev pub CheckSaw : (ℕ → Plan) → History → Type 0
 CheckSaw plan w = (t i : ℕ) (k : Key) (found : Option ℕ) → w.protocol.checked t i ≡ true → version_read_at (plan t) i k ≡ Some found → written (plan t) k ≡ None → SawLast plan w t k found (w.checked_at t i) (w.basis t i k)
 
--- A prepare that took effect saw it of the write's base.
+-- A prepare that was seen and applied saw it of the write's base.
 abbrev pub PrepareSaw : (ℕ → Plan) → History → Type 0
-PrepareSaw plan w = (t : ℕ) (k : Key) → w.took_effect t k ≡ true → SawLast plan w t k (base_of (written (plan t) k)) (w.prepared_at t k) (w.under t k)
+PrepareSaw plan w = (t : ℕ) (k : Key) → w.protocol.answered t k ≡ true → SawLast plan w t k (base_of (written (plan t) k)) (w.prepared_at t k) (w.under t k)
 
 -- What a recorded transaction read at a key is of the last by point of the recorded writers before it; where it found none,
 -- there is no such writer, or the last deleted the row and was recorded before the transaction began.

@@ -8,7 +8,7 @@ pub fn check_saw()
     ensures { (r : LawfulRun) → CheckSaw r.plan (history_of r) }
 {}
 
-/// The same of the base of a write, at the prepare.
+/// The same of the base of a write, at its prepare that was seen and applied.
 pub fn prepare_saw()
     ensures { (r : LawfulRun) → PrepareSaw r.plan (history_of r) }
 {}
