@@ -4,7 +4,7 @@ use Rattle.law_protocol.specs.Types.{Decision, Key}
 use Rattle.sdb_types.proofs.Public.{tests}
 use Rattle.sdb_record.specs.declared.coordinator.Decision.TheVariants.{Committed}
 use Rattle.law_protocol.specs.Plan.{Plan, written}
-use Rattle.law_protocol.specs.History.{Action, Other, Begins, Takes, Prepares, Checks, Decides, Aborts, Rolls, Removes, Ends, Stops, Ack, Deciding, History, Final, Held, base_of, has_key, has_version, happens, Standing, image_in, or_else, shadow, IsLive, IsWriter, IsPrepared}
+use Rattle.law_protocol.specs.History.{Action, Other, Begins, Takes, Prepares, Checks, Decides, Aborts, Rolls, Removes, Ends, Stops, Ack, Deciding, History, Final, Held, has_key, has_version, happens, Standing, image_in, or_else, shadow, IsLive, IsWriter, IsPrepared}
 use Rattle.law_protocol.proofs.Allowed.{Allowed, IsUnanswered, at_one}
 use Rattle.law_protocol.proofs.Small.{writer_kept, decided_kept, TakenOk, AskedOk, TookOk, BegunOk, HeardOk, FirmOk, HeldOk, BaseOk, GoneOk, StandsOk}
 use Rattle.law_protocol.specs.Explained.{IsAsFound as Saw, RemovedBeforeBegin}
