@@ -4,7 +4,7 @@
     bench/generated.py FIRST COUNT [PROGRAM [JUDGE]]
 
 A seed gives a script: one to six clients, statements over two to four tables on all stores, both ends of every kind, lost and dropped
-calls, stops, clocks, VACUUM. The program plays it, and the judge is given the script and the report. The first seed that fails is printed,
+calls, stops, clocks, VACUUM; and a seed past 10,000 delayed calls and requests that land late. The program plays it, and the judge is given the script and the report. The first seed that fails is printed,
 with its script in as few moves and statements as still fail.
 
 Build both first: cd crates/scalardb && rt run -- replay < ../../examples/first.script; the same in crates/judge.
@@ -33,6 +33,7 @@ class Maker:
         self.tables = self.draw.sample(TABLES, self.draw.randint(2, len(TABLES)))
         self.last_key = self.draw.choice([0, 1, 3])
         self.slow = self.draw.random() < 0.5
+        self.late = seed > 10000
 
     def literal(self, kind, key=False):
         if not key and self.draw.random() < 0.08:
@@ -102,10 +103,15 @@ class Maker:
         return lines
 
     def moves(self, clients):
-        moves, now = [], 0
+        moves, now, delayed = [], 0, 0
         for _ in range(self.draw.randint(0, 60)):
             client, form = self.draw.randint(1, clients), self.draw.random()
-            if form < 0.6:
+            if self.late and self.draw.random() < 0.15:
+                moves.append(f"delay {client}")
+                delayed += 1
+            elif self.late and self.draw.random() < 0.15:
+                moves.append(f"land {self.draw.randint(1, delayed + 1)}")
+            elif form < 0.6:
                 count = self.draw.randint(1, 3 if self.slow else 8)
                 moves.append(f"step {client} {count}" if count > 1 else f"step {client}")
             elif form < 0.72:

@@ -41,6 +41,9 @@ refused 2 'client ann\nclient ann\nrun\n' replay
 refused 2 'client ann\n  \nrun\n' replay
 refused 3 'client ann\nrun\nstep 4\n' replay
 refused 3 'client ann\nrun\nstep 1 1\n' replay
+refused 3 'client ann\nrun\ndelay 4\n' replay
+refused 2 'run\nland 0\n' replay
+refused 2 'run\nland 200001\n' replay
 refused 2 'run\nclock 9007199254740993\n' replay
 refused 1 'place shop mysql\nrun\n' replay
 refused 2 'place shop ordered\nplace shop ordered\nrun\n' replay

@@ -7,7 +7,7 @@ use Rattle.sdb_types.specs.declared.record.Condition.TheVariants as condition
 use Rattle.check_answers.specs.Types.{Event, How, Made, Record, Request, State, TxId}
 use Rattle.sdb_record.specs.Coordinator.{coordinator_key_of}
 use Rattle.sdb_record.specs.Meta.{id_in, is_unresolved, state_in}
-use Rattle.sdb_model.specs.declared.event.How.TheVariants.{Seen, Lost, Discarded, Broken}
+use Rattle.sdb_model.specs.declared.event.How.TheVariants.{Seen, Lost, Discarded, Delayed, Broken}
 use Rattle.sdb_model.specs.Calls as calls
 use Rattle.sdb_model.specs.Calls.{calls_after, calls_of, decision_observed, records_read}
 use Rattle.sdb_model.specs.Counted.{IsPassedOver, IsResolved, is_seen, roll_by}
@@ -29,6 +29,7 @@ seen_how : (h : How) → is_seen h ≡ true → h ≡ Seen
 seen_how Seen e = refl
 seen_how Lost e = clash (sym e)
 seen_how Discarded e = clash (sym e)
+seen_how Delayed e = clash (sym e)
 seen_how Broken e = clash (sym e)
 
 -- a call after an event, among those of a statement

@@ -35,6 +35,7 @@ untaken client n (event.Call c store q how r (Some a)) h = by (c == client)
 untaken client n (event.Stop c) h = refl
 untaken client n (event.Clock moment) h = refl
 untaken client n (event.Idle c) h = refl
+untaken client n (event.Land number store q how r) h = refl
 
 none_said : (client : ℕ) (n : ℕ) (events : List Event) → list_any (takes client) events ≡ false → fold (statements_after client) [] (enumerate_from n events) ≡ []
 none_said client n [] h = refl

@@ -207,11 +207,12 @@ fn broken(events: &[Event]) -> usize
     let more = broken(rest);
     match first {
         Event::Call(_, _, _, How::Broken, _, _) => more + 1,
+        Event::Land(_, _, _, How::Broken, _) => more + 1,
         _ => more,
     }
 }
 
-/// How many calls the stores themselves failed.
+/// How many calls and landings the stores themselves failed.
 pub fn broken_in(events: &[Event]) -> usize
     ensures { result ≡ broken_in_lem events.now }
 {

@@ -1,21 +1,22 @@
 //! The clients of a script, and what each event does to them.
-ghost use Rattle.std.specs.Prelude.{◌≡◌, ◌<◌, ◌-◌, ◌^◌, pos, suc, true, false, length, Some, IfOk, IfSome, slice_get};
+ghost use Rattle.std.specs.Prelude.{◌≡◌, ◌<◌, ◌-◌, ◌^◌, [], pos, suc, true, false, length, Some, IfOk, IfSome, OnOk, slice_get};
 ghost use Rattle.sdb_record.specs.Meta.{is_moment as is_moment_lem};
-ghost use Rattle.sdb_model.specs.Follows.{texts_of};
+ghost use Rattle.sdb_model.specs.Follows.{IsHowOfStep, texts_of};
 ghost use Rattle.sdb_client.specs.Client.{IsIdle, client_pending};
-ghost use Rattle.sdb_client.specs.Execution.{AreFresh, CallStep, IsStepFrom, StopStep, TakeStep};
+ghost use Rattle.sdb_client.specs.Execution.{AreFresh, CallStep, IsStepFrom, LandStep, StopStep, TakeStep, flights_after, with_flights};
 
 use crate::is_answered_alike;
 use crate::replies::{can_answer, is_moment};
 use sdb_client::{Client, ClientSlot, fresh_slots, gate_at, prove_order};
-use sdb_model::{Answer, Event, Script};
+use sdb_model::{Answer, Event, How, Script};
 use sdb_types::{Duplicate, NoMemory, Reply, Request, Txt, same};
 use std::alloc::Global;
 use std::marker::Model;
 
-/// A state of an execution: the clients, and the clock.
+/// A state of an execution: the clients, the requests of the calls that were delayed, each none once it has landed, and the clock.
 pub struct Clients {
     client_slots: Vec<ClientSlot>,
+    flights: Vec<Option<Request>>,
     clock: i64,
 }
 
@@ -24,6 +25,7 @@ impl Drop for Clients {
     fn drop(self) {
         let Clients {
             client_slots: _,
+            flights: _,
             clock: _,
         } = self;
     }
@@ -34,7 +36,7 @@ impl Model for Clients {
 
     ghost Value = { State };
 
-    ghost view = { λ c. record { client_slots = c.client_slots.items; clock = c.clock } };
+    ghost view = { λ c. record { client_slots = c.client_slots.items; flights = c.flights.items; clock = c.clock } };
 }
 
 // A text is a client's next statement.
@@ -67,16 +69,49 @@ fn is_pending(client: &Client, request: &Request) -> bool
     }
 }
 
+// A delayed call is answered a fault.
+fn has_reply(how: How, reply: &Reply) -> bool
+    ensures { result ≡ true → how ≡ How.Delayed → reply.now ≡ Reply.Fault }
+{
+    match how {
+        How::Delayed => matches!(reply, Reply::Fault),
+        How::Seen | How::Lost | How::Discarded | How::Broken => true,
+    }
+}
+
+// A landing is seen, and no fault, or the store failed.
+fn may_land(how: How, reply: &Reply) -> bool
+    ensures { result ≡ true → IsHowOfStep how reply.now }
+{
+    match how {
+        How::Seen => !matches!(reply, Reply::Fault),
+        How::Broken => matches!(reply, Reply::Fault),
+        How::Lost | How::Discarded | How::Delayed => false,
+    }
+}
+
+// The request at a place is in flight.
+fn is_in_flight(flights: &[Option<Request>], at: usize, request: &Request) -> bool
+    ensures { result ≡ true → slice_get flights.now at ≡ Some (Some request.now) }
+{
+    match flights.get(at) {
+        Some(Some(flight)) => same(flight, request),
+        _ => false,
+    }
+}
+
 impl Clients {
-    /// So many clients that have done nothing, at moment 0.
+    /// So many clients that have done nothing, with nothing in flight, at moment 0.
     pub fn new(alloc: Global, count: usize) -> Result<Clients, NoMemory>
         requires few { count < 2 ^ 32 - 1 }
         ensures client_slots { IfOk result (λ c. AreFresh count c.client_slots) }
+        ensures flights { IfOk result (λ c. c.flights ≡ []) }
         ensures clock { IfOk result (λ c. c.clock ≡ pos 0) }
     {
         let client_slots = fresh_slots(alloc, count)?;
         Ok(Clients {
             client_slots,
+            flights: Vec::new(alloc),
             clock: 0,
         })
     }
@@ -120,14 +155,14 @@ impl Clients {
     }
 
     // A client takes the reply to the call that it has pending, which is answered so.
-    fn call(
+    fn receive(
         &mut self,
         client: u32,
         request: &Request,
         reply: Reply,
         answer: &Option<Answer>,
     ) -> bool
-        ensures { result ≡ true → CallStep self.old client request.now reply answer.now self.new }
+        ensures { result ≡ true → CallStep self.old client request.now How.Seen reply answer.now self.new }
     {
         let Some(at) = self.place(client) else {
             return false;
@@ -139,6 +174,55 @@ impl Clients {
         prove_order(&reply);
         let answered = client_slot.client.advance(reply, self.clock);
         is_answered_alike(&answered, answer)
+    }
+
+    // A call is made, or discarded, or goes into flight.
+    fn depart(&mut self, how: How, request: &Request) -> Result<(), NoMemory>
+        ensures { OnOk result (self.new ≡ with_flights self.old (flights_after self.old.flights how request.now)) }
+    {
+        match how {
+            How::Delayed => self.flights.push(Some(request.copy()?))?,
+            How::Seen | How::Lost | How::Discarded | How::Broken => {}
+        }
+        Ok(())
+    }
+
+    // A client makes the call that it has pending, and takes the reply, which is answered so.
+    #[tactic(auto, using(crate::proofs::Steps::departed))]
+    fn call(
+        &mut self,
+        client: u32,
+        request: &Request,
+        how: How,
+        reply: Reply,
+        answer: &Option<Answer>,
+    ) -> Result<bool, NoMemory>
+        ensures { IfOk result (λ so. so ≡ true → CallStep self.old client request.now how reply answer.now self.new) }
+    {
+        if !has_reply(how, &reply) {
+            return Ok(false);
+        }
+        let so = self.receive(client, request, reply, answer);
+        self.depart(how, request)?;
+        Ok(so)
+    }
+
+    // The request of a delayed call takes effect.
+    fn land(&mut self, number: u32, request: &Request, how: How, reply: &Reply) -> bool
+        ensures { result ≡ true → LandStep self.old number request.now how reply.now self.new }
+    {
+        let Some(at) = (number as usize).checked_sub(1) else {
+            return false;
+        };
+        if !is_in_flight(&self.flights, at, request)
+            || !may_land(how, reply)
+            || !can_answer(request, reply)
+        {
+            return false;
+        }
+        prove_order(reply);
+        self.flights[at] = None;
+        true
     }
 
     // A client stops.
@@ -157,7 +241,7 @@ impl Clients {
 
     // The clock shows a moment.
     fn tick(&mut self, moment: i64) -> bool
-        ensures { result ≡ true → (is_moment_lem moment ≡ true) × (self.new ≡ record { client_slots = self.old.client_slots; clock = moment }) }
+        ensures { result ≡ true → (is_moment_lem moment ≡ true) × (self.new ≡ record { client_slots = self.old.client_slots; flights = self.old.flights; clock = moment }) }
     {
         self.clock = moment;
         is_moment(moment)
@@ -169,12 +253,15 @@ impl Clients {
     {
         match event {
             Event::Take(client, text, answer) => Ok(self.take(script, *client, text, answer)),
-            Event::Call(client, _, request, _, reply, answer) => {
-                Ok(self.call(*client, request, reply.copy()?, answer))
+            Event::Call(client, _, request, how, reply, answer) => {
+                self.call(*client, request, *how, reply.copy()?, answer)
             }
             Event::Stop(client) => Ok(self.stop(*client)),
             Event::Clock(moment) => Ok(self.tick(*moment)),
             Event::Idle(_) => Ok(true),
+            Event::Land(number, _, request, how, reply) => {
+                Ok(self.land(*number, request, *how, reply))
+            }
         }
     }
 }

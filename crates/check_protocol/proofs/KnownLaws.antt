@@ -15,6 +15,8 @@ use Rattle.check_protocol.specs.Values.{all_labelled, action_of, plan_in, writes
 use Rattle.check_protocol.specs.Started.{is_take_of, is_prepare_of, commit_started_in, asked_in, risked_in, won_in, dead_in, met_in}
 use Rattle.check_protocol.specs.Observed.{observed, moments, observes_commit, observes_abort}
 use Rattle.check_protocol.specs.Rules.{is_sound, is_known_committed, is_known_aborted, prepared_by, own, with_own, has_own_moment, known_moments}
+use Rattle.law_protocol.proofs.Public.{occurs_by}
+use Rattle.check_protocol.proofs.LateLaws.{delayed_before}
 use Rattle.check_protocol.proofs.Lists.{none_some, right, or_left, not_true, true_not, In}
 use Rattle.check_protocol.proofs.StateLaws.{taken_is, asked_is, won_is, dead_is, met_is, risked_is}
 use Rattle.check_protocol.proofs.ObservedLaws.{in_more, more_in, last_in, number_is, commit_shown, shows_commit_of, abort_shown, shows_abort_of, moment_shown, shown_moment}
@@ -124,7 +126,10 @@ take_sound plans past p t m h k w at = by p.action m h
 pub lawful_sound : (plans : List Plan) (past : List Labelled) (t : ℕ) → IsLawful (plan_in plans) (all_labelled past) → commit_started_in past t ≡ true → (k : Key) (w : Write) → write_at (plan_in plans t) k ≡ Some w → IsWrite w
 lawful_sound plans [] t l h k w at = clash (sym h)
 lawful_sound plans (p ∷ past) t l h k w at = elim (either (is_take_of t p.action) (commit_started_in past t) h) [
-  | inl e ↦ take_sound plans past p t l.1 e k w at
+  | inl e ↦ elim (occurs_by (plan_in plans) (all_labelled past) p.event (action_of p.action) l.1) [
+    | inl m ↦ take_sound plans past p t m e k w at
+    | inr d ↦ lawful_sound plans past t l.0 (delayed_before (is_take_of t) past d.request p.action d.was e) k w at
+  ]
   | inr e ↦ lawful_sound plans past t l.0 e k w at
 ]
 
@@ -138,6 +143,9 @@ ask_taken plans past p t k m h = by p.action m h
 pub lawful_asked : (plans : List Plan) (past : List Labelled) (t : ℕ) (k : Key) → IsLawful (plan_in plans) (all_labelled past) → asked_in past t k ≡ true → commit_started_in past t ≡ true
 lawful_asked plans [] t k l h = clash (sym h)
 lawful_asked plans (p ∷ past) t k l h = or_right (is_take_of t p.action) (commit_started_in past t) (elim (either (is_prepare_of t k p.action) (asked_in past t k) h) [
-  | inl e ↦ ask_taken plans past p t k l.1 e
+  | inl e ↦ elim (occurs_by (plan_in plans) (all_labelled past) p.event (action_of p.action) l.1) [
+    | inl m ↦ ask_taken plans past p t k m e
+    | inr d ↦ lawful_asked plans past t k l.0 (delayed_before (is_prepare_of t k) past d.request p.action d.was e)
+  ]
   | inr e ↦ lawful_asked plans past t k l.0 e
 ])

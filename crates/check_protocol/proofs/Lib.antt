@@ -3,6 +3,7 @@ mod StateLaws
 mod ObservedLaws
 mod SettledLaws
 mod Requests
+mod LateLaws
 mod PlanLaws
 mod TakeLaws
 mod CallLaws

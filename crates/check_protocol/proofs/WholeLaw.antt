@@ -6,7 +6,7 @@ use Rattle.check_protocol.specs.Types.{Answer, Event, Key, TxId}
 use Rattle.sdb_record.specs.Coordinator.{coordinator_key_of}
 use Rattle.sdb_model.specs.declared.answer.Answer.TheVariants as answer
 use Rattle.sdb_model.specs.declared.event.Event.TheVariants as event
-use Rattle.law_protocol.specs.Lawful.{id, protocol_state, answer_of, is_denial, IsEnabled, MayAnswer, MayDeny, IsKnownAborted, IsBadRow, IsLawful}
+use Rattle.law_protocol.specs.Lawful.{id, protocol_state, answer_of, is_denial, IsEnabled, MayOccur, MayAnswer, MayDeny, IsKnownAborted, IsBadRow, IsLawful}
 use Rattle.check_protocol.specs.declared.plan.Plan.{Plan}
 use Rattle.check_protocol.specs.declared.labelled.Action.{Action}
 use Rattle.check_protocol.specs.declared.labelled.Action.TheVariants as action
@@ -14,10 +14,11 @@ use Rattle.check_protocol.specs.declared.labelled.Labelled.{Labelled}
 use Rattle.check_protocol.specs.Values.{all_labelled, labelled_of, action_of, plan_in}
 use Rattle.check_protocol.specs.Started.{commit_started_in, risked_in}
 use Rattle.check_protocol.specs.Observed.{observed, observes_bad_row}
-use Rattle.check_protocol.specs.Rules.{acts_well, stops_well, denies, may_answer, may_deny, is_known_committed, is_known_aborted, obeys_rules}
+use Rattle.check_protocol.specs.Rules.{acts_well, occurs_well, stops_well, denies, may_answer, may_deny, is_known_committed, is_known_aborted, obeys_rules}
 use Rattle.check_protocol.proofs.Lists.{none_some, right, or_left, not_true, true_not, not_both}
 use Rattle.check_protocol.proofs.StateLaws.{taken_is, asked_is, risked_is}
 use Rattle.check_protocol.proofs.ObservedLaws.{number_is, is_number, bad_row_shown, shows_bad_row_of}
+use Rattle.check_protocol.proofs.LateLaws.{delayed_is, is_delayed}
 use Rattle.check_protocol.proofs.TakeLaws.{begin_is, is_begin, take_is, is_take}
 use Rattle.check_protocol.proofs.CallLaws.{prepare_is, is_prepare, check_is, is_check, decide_is, is_decide, abort_is, is_abort}
 use Rattle.check_protocol.proofs.KnownLaws.{known_is, is_known, aborted_is, is_aborted, lawful_sound, lawful_asked}
@@ -33,35 +34,44 @@ stop_is (event.Take client text answer) c h = clash (sym h)
 stop_is (event.Call client store q how r answer) c h = clash (sym h)
 stop_is (event.Clock moment) c h = clash (sym h)
 stop_is (event.Idle client) c h = clash (sym h)
+stop_is (event.Land number store q how r) c h = clash (sym h)
 
-play_is : (past : List Labelled) (plans : List Plan) (e : Event) (r : Action) → acts_well (observed past) past plans e r ≡ true → IsEnabled (plan_in plans) (all_labelled past) e (action_of r)
-play_is past plans e action.Other h = h
-play_is past plans e (action.Begins t c) h = begin_is past e t.0 c h
-play_is past plans e (action.Takes t) h = take_is past plans e t.0 h
-play_is past plans e (action.Prepares t k w) h = prepare_is past plans e t.0 k w h
-play_is past plans e (action.Checks t i) h = check_is past plans e t.0 i h
-play_is past plans e (action.Decides t w) h = decide_is past plans e t.0 w h
-play_is past plans e (action.Aborts t moment w) h = abort_is past e t.0 moment w h
-play_is past plans e (action.Rolls t k d) h = roll_is past plans e t.0 k d h
-play_is past plans e (action.Removes k t) h = remove_is past plans e k t.0 h
-play_is past plans e (action.Ends t) h = clash (sym h)
-play_is past plans e (action.Stops c) h = stop_is e c h
+enabled_is : (past : List Labelled) (plans : List Plan) (e : Event) (r : Action) → acts_well (observed past) past plans e r ≡ true → IsEnabled (plan_in plans) (all_labelled past) e (action_of r)
+enabled_is past plans e action.Other h = h
+enabled_is past plans e (action.Begins t c) h = begin_is past e t.0 c h
+enabled_is past plans e (action.Takes t) h = take_is past plans e t.0 h
+enabled_is past plans e (action.Prepares t k w) h = prepare_is past plans e t.0 k w h
+enabled_is past plans e (action.Checks t i) h = check_is past plans e t.0 i h
+enabled_is past plans e (action.Decides t w) h = decide_is past plans e t.0 w h
+enabled_is past plans e (action.Aborts t moment w) h = abort_is past e t.0 moment w h
+enabled_is past plans e (action.Rolls t k d) h = roll_is past plans e t.0 k d h
+enabled_is past plans e (action.Removes k t) h = remove_is past plans e k t.0 h
+enabled_is past plans e (action.Ends t) h = clash (sym h)
+enabled_is past plans e (action.Stops c) h = stop_is e c h
 
 pub sound : (past : List Labelled) (plans : List Plan) (t : ℕ) (k : Key) → IsLawful (plan_in plans) (all_labelled past) → Sound past plans t k
 sound past plans t k l asked w at = lawful_sound plans past t l (lawful_asked plans past t k l (sym (asked_is past t k) ∙ asked)) k w at
 
-is_play : (past : List Labelled) (plans : List Plan) (e : Event) (r : Action) → IsLawful (plan_in plans) (all_labelled past) → IsEnabled (plan_in plans) (all_labelled past) e (action_of r) → acts_well (observed past) past plans e r ≡ true
-is_play past plans e action.Other l m = m
-is_play past plans e (action.Begins t c) l m = is_begin past e t.0 c m
-is_play past plans e (action.Takes t) l m = is_take past plans e t.0 m
-is_play past plans e (action.Prepares t k w) l m = is_prepare past plans e t.0 k w m (lawful_sound plans past t.0 l (sym (taken_is past t.0) ∙ m.within.accepted) k m.write m.at)
-is_play past plans e (action.Checks t i) l m = is_check past plans e t.0 i m
-is_play past plans e (action.Decides t w) l m = is_decide past plans e t.0 w m
-is_play past plans e (action.Aborts t moment w) l m = is_abort past e t.0 moment w m
-is_play past plans e (action.Rolls t k d) l m = is_roll past plans e t.0 k d (sound past plans t.0 k l) m
-is_play past plans e (action.Removes k t) l m = is_remove past e k t.0 m
-is_play past plans e (action.Ends t) l m = absurd m
-is_play past plans e (action.Stops c) l m = ap (λ x. stops_well x c) m ∙ is_number c c refl
+is_enabled_of : (past : List Labelled) (plans : List Plan) (e : Event) (r : Action) → IsLawful (plan_in plans) (all_labelled past) → IsEnabled (plan_in plans) (all_labelled past) e (action_of r) → acts_well (observed past) past plans e r ≡ true
+is_enabled_of past plans e action.Other l m = m
+is_enabled_of past plans e (action.Begins t c) l m = is_begin past e t.0 c m
+is_enabled_of past plans e (action.Takes t) l m = is_take past plans e t.0 m
+is_enabled_of past plans e (action.Prepares t k w) l m = is_prepare past plans e t.0 k w m (lawful_sound plans past t.0 l (sym (taken_is past t.0) ∙ m.within.accepted) k m.write m.at)
+is_enabled_of past plans e (action.Checks t i) l m = is_check past plans e t.0 i m
+is_enabled_of past plans e (action.Decides t w) l m = is_decide past plans e t.0 w m
+is_enabled_of past plans e (action.Aborts t moment w) l m = is_abort past e t.0 moment w m
+is_enabled_of past plans e (action.Rolls t k d) l m = is_roll past plans e t.0 k d (sound past plans t.0 k l) m
+is_enabled_of past plans e (action.Removes k t) l m = is_remove past e k t.0 m
+is_enabled_of past plans e (action.Ends t) l m = absurd m
+is_enabled_of past plans e (action.Stops c) l m = ap (λ x. stops_well x c) m ∙ is_number c c refl
+
+occurs_is : (past : List Labelled) (plans : List Plan) (e : Event) (a : Action) → occurs_well (observed past) past plans e a ≡ true → MayOccur (plan_in plans) (all_labelled past) e (action_of a)
+occurs_is past plans (event.Land number store q how r) a h = delayed_is past q a h
+occurs_is past plans e a h = enabled_is past plans e a h
+
+is_occurring : (past : List Labelled) (plans : List Plan) (e : Event) (a : Action) → IsLawful (plan_in plans) (all_labelled past) → MayOccur (plan_in plans) (all_labelled past) e (action_of a) → occurs_well (observed past) past plans e a ≡ true
+is_occurring past plans (event.Land number store q how r) a l m = is_delayed past q a m
+is_occurring past plans e a l m = is_enabled_of past plans e a l m
 
 ---- answers
 
@@ -150,21 +160,21 @@ is_deny past p f = by (answer_of p.event) refl
 pub lawful_is : (plans : List Plan) (past : List Labelled) → obeys_rules plans past ≡ true → IsLawful (plan_in plans) (all_labelled past)
 lawful_is plans [] h = tt
 lawful_is plans (p ∷ past) h =
-    let plays = acts_well (observed past) past plans p.event p.action in
+    let occurs = occurs_well (observed past) past plans p.event p.action in
     let knows = not (is_committed_answer (answer_of p.event)) || may_answer (observed (p ∷ past)) (p ∷ past) past p.ends in
     let denies_it = not (denies (answer_of p.event)) || may_deny (observed (p ∷ past)) (p ∷ past) past p.ends in
-    let one = right (obeys_rules plans past) (plays && (knows && denies_it)) h in
-    let two = right plays (knows && denies_it) one in
-    (lawful_is plans past (left (obeys_rules plans past) (plays && (knows && denies_it)) h), play_is past plans p.event p.action (left plays (knows && denies_it) one), tell_is plans past p (left knows denies_it two), deny_is past p (right knows denies_it two))
+    let one = right (obeys_rules plans past) (occurs && (knows && denies_it)) h in
+    let two = right occurs (knows && denies_it) one in
+    (lawful_is plans past (left (obeys_rules plans past) (occurs && (knows && denies_it)) h), occurs_is past plans p.event p.action (left occurs (knows && denies_it) one), tell_is plans past p (left knows denies_it two), deny_is past p (right knows denies_it two))
 
 pub is_lawful : (plans : List Plan) (past : List Labelled) → IsLawful (plan_in plans) (all_labelled past) → obeys_rules plans past ≡ true
 is_lawful plans [] l = refl
 is_lawful plans (p ∷ past) l =
-    let plays = acts_well (observed past) past plans p.event p.action in
+    let occurs = occurs_well (observed past) past plans p.event p.action in
     let knows = not (is_committed_answer (answer_of p.event)) || may_answer (observed (p ∷ past)) (p ∷ past) past p.ends in
     let denies_it = not (denies (answer_of p.event)) || may_deny (observed (p ∷ past)) (p ∷ past) past p.ends in
-    both (obeys_rules plans past) (plays && (knows && denies_it)) (is_lawful plans past l.0)
-    (both plays (knows && denies_it) (is_play past plans p.event p.action l.0 l.1) (both knows denies_it (is_tell plans past p l.2) (is_deny past p l.3)))
+    both (obeys_rules plans past) (occurs && (knows && denies_it)) (is_lawful plans past l.0)
+    (both occurs (knows && denies_it) (is_occurring past plans p.event p.action l.0 l.1) (both knows denies_it (is_tell plans past p l.2) (is_deny past p l.3)))
 
 -- what passes the tests or not is so of the law
 pub decided : {E : Type 0} (plans : List Plan) (past : List Labelled) (r : Result Bool E) → IfOk r (λ w. w ≡ obeys_rules plans past) → IfOk r (λ w. IsTrue w ↔ IsLawful (plan_in plans) (all_labelled past))

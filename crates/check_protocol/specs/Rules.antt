@@ -16,6 +16,7 @@ use Rattle.sdb_record.specs.Moved.{version_of, condition_of, is_unchanged, same_
 use Rattle.sdb_record.specs.Rolls.{is_change, prepared_record}
 use Rattle.sdb_record.specs.Among.{version_among, write_among}
 use Rattle.sdb_model.specs.declared.event.Event.TheVariants as event
+use Rattle.sdb_model.specs.declared.event.How.TheVariants.{Delayed}
 use Rattle.sdb_model.specs.Sql.{reads_begin, reads_commit}
 use Rattle.sdb_model.specs.ReadSet.{version_read}
 use Rattle.law_protocol.specs.Lawful.{id, is_quiet, is_denial, answer_of}
@@ -27,6 +28,7 @@ use Rattle.check_protocol.specs.declared.labelled.Ack.TheVariants as word
 use Rattle.check_protocol.specs.declared.labelled.Action.{Action}
 use Rattle.check_protocol.specs.declared.labelled.Action.TheVariants as action
 use Rattle.check_protocol.specs.declared.labelled.Labelled.{Labelled}
+use Rattle.check_protocol.specs.contracts.labelled.ActionPartialEq.TheImpl as action_eq
 use Rattle.check_protocol.specs.Values.{item_of, writes_in, items_in, moment_in, same_request, same_span}
 use Rattle.check_protocol.specs.Started.{commit_started_in, begun_in, asked_in, acknowledged_in, checked_in, staged_in, deciding_in, risked_in, won_in, dead_in, met_in, stopped_in, owner_of, open_in}
 use Rattle.check_protocol.specs.Observed.{observed, is_prepared_by, is_before_image_of, has_no_before, is_forward, moments, observes_commit, observes_abort, observes_bad_row, is_settled, settles, settles_removed}
@@ -238,7 +240,7 @@ abbrev pub stops_well : Event → ℕ → Bool
 stops_well (event.Stop client) c = client == c
 stops_well _ c = false
 
--- An event may play this part after the events so far, of which the replies showed these records.
+-- An event other than a landing may occur with this action after the events so far, of which the replies showed these records.
 abbrev pub acts_well : List Record → List Labelled → List Plan → Event → Action → Bool
 acts_well rs past plans e action.Other = is_quiet e
 acts_well rs past plans e (action.Begins t c) = begins_well past e t.0 c
@@ -251,6 +253,25 @@ acts_well rs past plans e (action.Rolls t k d) = rolls_well rs past plans e t.0 
 acts_well rs past plans e (action.Removes k t) = removes_well rs past e k t.0
 acts_well rs past plans e (action.Ends t) = false
 acts_well rs past plans e (action.Stops c) = stops_well e c
+
+---- requests that take effect late
+
+unfoldable pub same_action : Action → Action → Bool
+same_action a b = (action_eq.ghosts).eq a b
+
+-- an event is a call of this request that was delayed
+abbrev pub delays : Request → Event → Bool
+delays q (event.Call client store asked Delayed reply.Fault answered) = same_request asked q
+delays q _ = false
+
+-- A call of this request was delayed, with this action.
+abbrev pub was_delayed : List Labelled → Request → Action → Bool
+was_delayed past q a = list_any (λ p. delays q p.event && same_action p.action a) past
+
+-- An event may occur with this action: a landing where a call of its request was delayed with it.
+abbrev pub occurs_well : List Record → List Labelled → List Plan → Event → Action → Bool
+occurs_well rs past plans (event.Land number store q how r) a = was_delayed past q a
+occurs_well rs past plans e a = acts_well rs past plans e a
 
 ---- answers
 
@@ -272,4 +293,4 @@ answers_well rs whole past p = (not (is_committed_answer (answer_of p.event)) ||
 -- The whole list obeys the rules.
 abbrev pub obeys_rules : List Plan → List Labelled → Bool
 obeys_rules plans [] = true
-obeys_rules plans (p ∷ past) = obeys_rules plans past && (acts_well (observed past) past plans p.event p.action && answers_well (observed (p ∷ past)) (p ∷ past) past p)
+obeys_rules plans (p ∷ past) = obeys_rules plans past && (occurs_well (observed past) past plans p.event p.action && answers_well (observed (p ∷ past)) (p ∷ past) past p)

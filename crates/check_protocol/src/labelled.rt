@@ -22,7 +22,7 @@ pub enum Ack {
 }
 
 /// The action of an event in the protocol.
-#[derive(Debug)]
+#[derive(Debug, PartialEq, Eq)]
 pub enum Action {
     /// None.
     Other,

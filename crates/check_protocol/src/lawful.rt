@@ -2,9 +2,10 @@
 ghost use Rattle.std.specs.Prelude.{◌≡◌, ◌&&◌, ◌↔◌, IsTrue, IfOk};
 ghost use Rattle.law_protocol.specs.Lawful.{IsLawful};
 ghost use Rattle.check_protocol.specs.Values.{plan_in, all_labelled};
-ghost use Rattle.check_protocol.specs.Rules.{acts_well, answers_well, obeys_rules};
+ghost use Rattle.check_protocol.specs.Rules.{acts_well, answers_well, obeys_rules, occurs_well};
 ghost use Rattle.check_protocol.specs.Observed.{observed as observed_lem};
 
+use crate::late::was_delayed;
 use crate::rolls::{answers_truly, may_remove, may_roll};
 use crate::rules::{
     is_quiet, may_abort, may_begin, may_check, may_decide, may_prepare, may_stop, may_take,
@@ -14,7 +15,8 @@ use sdb_model::Event;
 use sdb_types::{NoMemory, Record};
 use std::alloc::Global;
 
-fn may_play(
+// Of an event other than a landing.
+fn is_enabled(
     alloc: Global,
     found_in: &[Record],
     past: &[Labelled],
@@ -43,6 +45,22 @@ fn may_play(
     }
 }
 
+fn may_occur(
+    alloc: Global,
+    found_in: &[Record],
+    past: &[Labelled],
+    plans: &[Plan],
+    event: &Event,
+    action: &Action,
+) -> Result<bool, NoMemory>
+    ensures { IfOk result (λ well. well ≡ occurs_well found_in.now past.now plans.now event.now action.now) }
+{
+    match event {
+        Event::Land(_, _, request, _, _) => Ok(was_delayed(past, request, action)),
+        _ => is_enabled(alloc, found_in, past, plans, event, action),
+    }
+}
+
 fn may_follow(
     alloc: Global,
     plans: &[Plan],
@@ -50,10 +68,10 @@ fn may_follow(
     past: &[Labelled],
     labelled: &Labelled,
 ) -> Result<bool, NoMemory>
-    ensures { IfOk result (λ well. well ≡ (acts_well (observed_lem past.now) past.now plans.now labelled.now.event labelled.now.action && answers_well (observed_lem whole.now) whole.now past.now labelled.now)) }
+    ensures { IfOk result (λ well. well ≡ (occurs_well (observed_lem past.now) past.now plans.now labelled.now.event labelled.now.action && answers_well (observed_lem whole.now) whole.now past.now labelled.now)) }
 {
     let before = observed(alloc, past)?;
-    if !may_play(
+    if !may_occur(
         alloc,
         before.as_slice(),
         past,

@@ -4,6 +4,7 @@
 
 mod commit;
 mod labelled;
+mod late;
 mod lawful;
 pub mod laws;
 mod plan;
@@ -19,6 +20,7 @@ pub use labelled::{
     is_dead, is_deciding, is_met_once, is_open, is_past_prepares, is_risked, is_stopped, is_won,
     owner,
 };
+pub use late::was_delayed;
 pub use lawful::is_lawful;
 pub use plan::{
     Plan, ReadItem, items_of, moment_of, version_among, version_read, write_of, writes_of,
@@ -28,4 +30,4 @@ pub use records::{
     is_prepared_by, is_settled, moments, observed, observes_abort, observes_bad_row,
     observes_commit, record_among, settles, settles_removed, writer,
 };
-pub use same::{is_same_key, is_same_record, is_same_request, is_same_span};
+pub use same::{is_same_action, is_same_key, is_same_record, is_same_request, is_same_span};

@@ -332,6 +332,7 @@ fn answer_of(event: &Event) -> Option<&Answer>
         Event::Stop(_) => None,
         Event::Clock(_) => None,
         Event::Idle(_) => None,
+        Event::Land(_, _, _, _, _) => None,
     }
 }
 

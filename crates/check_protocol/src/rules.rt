@@ -458,6 +458,7 @@ pub fn is_quiet(event: &Event) -> bool
         Event::Stop(_) => false,
         Event::Clock(_) => true,
         Event::Idle(_) => true,
+        Event::Land(_, _, _, _, _) => false,
     }
 }
 

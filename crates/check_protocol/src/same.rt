@@ -1,8 +1,10 @@
-//! Equality of keys, records and requests.
+//! Equality of keys, records, requests and actions.
 ghost use Rattle.std.specs.Prelude.{◌≡◌};
 ghost use Rattle.sdb_types.specs.Order.{same_key};
+ghost use Rattle.check_protocol.specs.Rules.{same_action};
 ghost use Rattle.check_protocol.specs.Values.{same_record, same_request, same_span};
 
+use crate::labelled::Action;
 use sdb_types::{Key, Record, Request, Span};
 
 #[tactic(auto, unfolding(sdb_types::specs::Order::same_key))]
@@ -29,6 +31,13 @@ pub fn is_same_request(a: &Request, b: &Request) -> bool
 #[tactic(auto, unfolding(crate::specs::Values::same_span))]
 pub fn is_same_span(a: &Span, b: &Span) -> bool
     ensures { result ≡ same_span a.now b.now }
+{
+    *a == *b
+}
+
+#[tactic(auto, unfolding(crate::specs::Rules::same_action))]
+pub fn is_same_action(a: &Action, b: &Action) -> bool
+    ensures { result ≡ same_action a.now b.now }
 {
     *a == *b
 }

@@ -2,17 +2,17 @@
 use Rattle.std.proofs.Common.{◌≡◌, ◌⊎◌, inl, inr, ℕ, ◌+◌, Bool, true, false, List, [], ◌∷◌, ◌++◌, Option, Some, None, refl, sym, ap, subst, ◌∙◌, arith}
 use Rattle.std.specs.Prelude.{◌==◌, ◌&&◌, if◌then◌else◌, nat_le, nat_lt, Contains, MatchBool}
 use Rattle.std.specs.List.{AllByRecursion, cons_option, enumerate_from, filter_map}
-use Rattle.law_answers.specs.Types.{Act, Event, How, Move, Reply, Script, ScriptClient}
+use Rattle.law_answers.specs.Types.{Act, Event, How, Move, Reply, Request, Script, ScriptClient}
 use Rattle.sdb_types.specs.declared.record.Reply.TheVariants as reply
 use Rattle.sdb_types.specs.Replies.{is_fault, is_answered}
 use Rattle.sdb_types.proofs.Public.{append_all, clash, none_some, one_of, some_is}
 use Rattle.sdb_model.specs.declared.event.Event.TheVariants as event
-use Rattle.sdb_model.specs.declared.event.How.TheVariants.{Seen, Lost, Discarded, Broken}
+use Rattle.sdb_model.specs.declared.event.How.TheVariants.{Seen, Lost, Discarded, Delayed, Broken}
 use Rattle.sdb_model.specs.declared.script.Act.TheVariants as act
 use Rattle.sdb_model.specs.declared.script.Move.TheVariants as move
 use Rattle.sdb_model.specs.Calls.{StoreCall, calls_by, calls_of, end_of, made_by}
 use Rattle.sdb_model.specs.Counted.{is_seen}
-use Rattle.sdb_model.specs.Follows.{AreOfMoves, AreStepsOf, Follows, IsActed, IsCallOf, IsHowOfDiscard, IsHowOfLose, IsHowOfStep, IsOfMove, IsRest, IsStep, IsTakeOf, has_work, is_pending}
+use Rattle.sdb_model.specs.Follows.{AreOfMoves, AreStepsOf, Follows, IsActed, IsCallOf, IsHowOfDelay, IsHowOfDiscard, IsHowOfLose, IsHowOfStep, IsLanding, IsOfMove, IsRest, IsStep, IsTakeOf, has_work, in_flight, is_pending}
 use Rattle.sdb_model.specs.Transactions.{Executed}
 use Rattle.law_answers.specs.Counts.{SeenAreNoFaults}
 use Rattle.law_answers.specs.Rolled.{AnsweredWereSeen}
@@ -34,15 +34,20 @@ fits_step Seen r h = (λ s. h, λ a. refl)
 fits_step Broken r h = faulted Broken r refl h
 fits_step Lost r h = absurd h
 fits_step Discarded r h = absurd h
+fits_step Delayed r h = absurd h
 
 fits_lose : (how : How) (r : Reply) → IsHowOfLose how r → HowFits how r
 fits_lose Seen r h = (λ s. ap is_fault h, λ a. refl)
 fits_lose Broken r h = faulted Broken r refl h
 fits_lose Lost r h = faulted Lost r refl h
 fits_lose Discarded r h = absurd h
+fits_lose Delayed r h = absurd h
 
 fits_discard : (how : How) (r : Reply) → IsHowOfDiscard how r → HowFits how r
 fits_discard how r h = subst (λ (x : How). HowFits x r) (sym h.0) (faulted Discarded r refl h.1)
+
+fits_delay : (how : How) (r : Reply) → IsHowOfDelay how r → HowFits how r
+fits_delay how r h = subst (λ (x : How). HowFits x r) (sym h.0) (faulted Delayed r refl h.1)
 
 ---- the events of moves
 
@@ -52,6 +57,7 @@ call_fits c allowed fit (event.Call d store q how r a) h = fit how r h.1
 call_fits c allowed fit (event.Stop d) h = absurd h
 call_fits c allowed fit (event.Clock moment) h = absurd h
 call_fits c allowed fit (event.Idle d) h = absurd h
+call_fits c allowed fit (event.Land number store q how r) h = absurd h
 
 take_fits : (clients : List ScriptClient) (c : ℕ) (past : List Event) (e : Event) → IsTakeOf clients c past e → EventFits e
 take_fits clients c past (event.Take d text a) h = tt
@@ -59,6 +65,7 @@ take_fits clients c past (event.Call d store q how r a) h = absurd h
 take_fits clients c past (event.Stop d) h = absurd h
 take_fits clients c past (event.Clock moment) h = absurd h
 take_fits clients c past (event.Idle d) h = absurd h
+take_fits clients c past (event.Land number store q how r) h = absurd h
 
 step_fits : (clients : List ScriptClient) (c : ℕ) (allowed : How → Reply → Type 0) (fit : (how : How) (r : Reply) → allowed how r → HowFits how r) (past : List Event) (e : Event) → IsStep clients c allowed past e → EventFits e
 step_fits clients c allowed fit past e = by (has_work clients c past)
@@ -71,10 +78,22 @@ step_fits clients c allowed fit past e = by (has_work clients c past)
     by true h = busy (is_pending c past) h
     by false h = subst EventFits (sym h) tt
 
+-- what lands is no call of a client
+landing_fits : (k : ℕ) (late : Option Request) (e : Event) → IsLanding k late e → EventFits e
+landing_fits k None e h = subst EventFits (sym h) tt
+landing_fits k (Some q) (event.Take c text a) h = absurd h
+landing_fits k (Some q) (event.Call c store asked how r a) h = absurd h
+landing_fits k (Some q) (event.Stop c) h = absurd h
+landing_fits k (Some q) (event.Clock moment) h = absurd h
+landing_fits k (Some q) (event.Idle c) h = absurd h
+landing_fits k (Some q) (event.Land number store asked how r) h = tt
+
 acted_fits : (clients : List ScriptClient) (a : Act) (past : List Event) (e : Event) → IsActed clients a past e → EventFits e
 acted_fits clients (act.Step c) past e h = step_fits clients c IsHowOfStep fits_step past e h
 acted_fits clients (act.Lose c) past e h = step_fits clients c IsHowOfLose fits_lose past e h
 acted_fits clients (act.Discard c) past e h = step_fits clients c IsHowOfDiscard fits_discard past e h
+acted_fits clients (act.Delay c) past e h = step_fits clients c IsHowOfDelay fits_delay past e h
+acted_fits clients (act.Land k) past e h = landing_fits k (in_flight k past) e h
 acted_fits clients (act.Stop c) past e h = subst EventFits (sym h) tt
 acted_fits clients (act.Clock moment) past e h = subst EventFits (sym h) tt
 
@@ -107,6 +126,7 @@ event_made c n (event.Call x store q how r a) m fits made = by (x == c) made
 event_made c n (event.Stop x) m fits made = none_some m made
 event_made c n (event.Clock moment) m fits made = none_some m made
 event_made c n (event.Idle x) m fits made = none_some m made
+event_made c n (event.Land number store q how r) m fits made = none_some m made
 
 calls_fit : (c n : ℕ) (es : List Event) (m : StoreCall) → AllByRecursion EventFits es → Contains (filter_map (made_by c) (enumerate_from n es)) m → HowFits m.how m.reply
 calls_fit c n [] m fits has = absurd (omega (arith, has.1))

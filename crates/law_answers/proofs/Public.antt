@@ -26,4 +26,4 @@ pub use Rattle.law_answers.proofs.OwnRowsRead.{unwritten}
 pub use Rattle.law_answers.proofs.OwnRowsWhole.{answers_own}
 pub use Rattle.law_answers.proofs.Takings.{middle_ends, never_vacuum, none_yet}
 pub use Rattle.law_answers.proofs.Unfit.{at_note, found_new, rows_read_now, same_writes, observed_bad}
-pub use Rattle.law_answers.proofs.Whole.{clock_all, explained, invariant_serial, idles_all, replies_all, starts_all, stops_all, takes_all}
+pub use Rattle.law_answers.proofs.Whole.{clock_all, explained, invariant_serial, idles_all, lands_all, replies_all, starts_all, stops_all, takes_all}

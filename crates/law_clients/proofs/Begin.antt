@@ -189,15 +189,18 @@ pub begins : (plan : ℕ → Plan) → SystemOk plan [] idle
 begins plan = record { lawful = tt; each = λ c. refl; opened = λ u o. absurd (cc (o)); gate = λ c s. absurd (cc (s)); ids = λ t b. absurd (b refl) }
 
 -- A transaction whose COMMIT was accepted has begun.
-pub accepted_begun : (plan : ℕ → Plan) (past : List Labelled) (sys : SystemAt) (t : ℕ) → SystemOk plan past sys → (protocol_state past).accepted t ≡ true → 0 < t % 2 ^ 64
-accepted_begun plan past sys t ok accepted = by (zero_or ((protocol_state past).begun t))
+pub accepted_numbered : (plan : ℕ → Plan) (past : List Labelled) (sys : SystemAt) (t : ℕ) → SystemOk plan past sys → (protocol_state past).accepted t ≡ true → IsNumbered (protocol_state past) sys.begun t
+accepted_numbered plan past sys t ok accepted = by (zero_or ((protocol_state past).begun t))
   where
     clash : true ≡ false → ⊥
     clash e = cc
 
-    by : ((protocol_state past).begun t ≡ 0) ⊎ ((protocol_state past).begun t ≢ 0) → 0 < t % 2 ^ 64
+    by : ((protocol_state past).begun t ≡ 0) ⊎ ((protocol_state past).begun t ≢ 0) → IsNumbered (protocol_state past) sys.begun t
     by (inl z) = absurd (clash (sym accepted ∙ (in_turn plan past t ok.lawful).accepted z))
-    by (inr n) = (ok.ids t n).ordinal
+    by (inr n) = ok.ids t n
+
+pub accepted_begun : (plan : ℕ → Plan) (past : List Labelled) (sys : SystemAt) (t : ℕ) → SystemOk plan past sys → (protocol_state past).accepted t ≡ true → 0 < t % 2 ^ 64
+accepted_begun plan past sys t ok accepted = (accepted_numbered plan past sys t ok accepted).ordinal
 
 pub untaken : (plan : ℕ → Plan) (past : List Labelled) (sys : SystemAt) (c : ℕ) → SystemOk plan past sys → sys.begun c + 1 < 2 ^ 64 → (protocol_state past).accepted (next_id sys c).0 ≡ false
 untaken plan past sys c ok small = (in_turn plan past (next_id sys c).0 ok.lawful).accepted (unused plan past sys c ok small)

@@ -30,7 +30,7 @@ use Rattle.law_clients.specs.ReadAt.{IsKind, ReadAt, Asking, Resolving, Done, Fa
 use Rattle.law_clients.specs.Vacuum as vacuum
 use Rattle.law_clients.specs.Vacuum.{VacuumModel, VacuumModelOk, remove_or, removes_action, vacuum_rows, vacuum_one, vacuum_resolved, vacuum_removed, vacuum_scanned, vacuum_call, vacuum_action, vacuum_model_step}
 use Rattle.law_clients.specs.System.{Reading, RunsVacuum, Resting, ClientOk, Has, is_in_vacuum, Gate, SystemAt, SystemOk, with_client, ClientCall, call_event, IsReplyTo, IsInState}
-use Rattle.law_clients.proofs.Foreign.{IsForeign, IsForeignEvent, StopsNot, open_later, running}
+use Rattle.law_clients.proofs.Foreign.{IsForeign, IsForeignEvent, StopsNot, event_same, open_later, running}
 use Rattle.law_clients.proofs.Reading.{recover_lawful}
 use Rattle.law_clients.proofs.Clients.{BeginsNone, turned}
 use Rattle.law_clients.proofs.Commit.{no_start, not_open}
@@ -130,7 +130,7 @@ read_turn plan past sys x id seen a s answered agrees reply other = turned plan 
   begins = apart_begins (read_action s r) (read_apart s r);
   is_known = λ e. absurd (other e);
   denies = λ x executed denial u n. absurd (cc (n));
-  knows = (open_later past one c id.0 (apart_event id.0 c (read_action s r) e (read_apart s r)) known.0, seen_later past one seen known.1, known.2, read_kept past a c s x.now x.store x.request x.how r answered known.2 known.3 reply.asked reply.can reply.moment);
+  knows = (open_later past one c id.0 (event_same id.0 c past one (apart_event id.0 c (read_action s r) e (read_apart s r))) known.0, seen_later past one seen known.1, known.2, read_kept past a c s x.now x.store x.request x.how r answered known.2 known.3 reply.asked reply.can reply.moment);
   holds = λ u h o. inr (subst (λ x. Has x u) agrees.at h);
   starts = no_start (Reading id seen a (read_step s x.now r)) refl;
 })

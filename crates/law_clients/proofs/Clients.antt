@@ -2,13 +2,14 @@
 use Rattle.std.proofs.Common.{◌≡◌, ◌≢◌, ℕ, Bool, true, false, List, ◌∷◌, Option, Some, None, refl, sym, ap, subst, ◌∙◌, arith, ◌⊎◌, inl, inr}
 use Rattle.std.specs.Prelude.{◌==◌, if◌then◌else◌}
 use Rattle.std.proofs.lemmas.Bool.Decides.{nat_tests}
-use Rattle.law_clients.specs.Types.{Access, Answer, Meta, Record, RecoverPhase}
+use Rattle.law_clients.specs.Types.{Access, Answer, Event, Meta, Record, RecoverPhase}
 use Rattle.sdb_record.specs.declared.coordinator.Decision.TheVariants as decision
 use Rattle.sdb_model.specs.declared.answer.Answer.TheVariants as answer
+use Rattle.sdb_model.specs.declared.event.Event.TheVariants as event
 use Rattle.law_protocol.specs.Plan.{Plan}
 use Rattle.law_protocol.specs.History as laws
 use Rattle.law_protocol.specs.History.{Action, Begins, ProtocolState, state_after_event, state_after}
-use Rattle.law_protocol.specs.Lawful.{Labelled, IsEnabled, MayAnswer, MayDeny, protocol_state, ended, answer_of, is_denial}
+use Rattle.law_protocol.specs.Lawful.{Labelled, IsEnabled, MayOccur, MayAnswer, MayDeny, protocol_state, ended, answer_of, is_denial}
 use Rattle.sdb_phases.specs.declared.step.RecoverPhase.TheVariants as recovering
 use Rattle.law_clients.specs.Reader.{RecoverOk, PhaseOk}
 use Rattle.law_clients.specs.ReadAt.{ReadAt, Asking, Resolving, Done, Failed, ReadOk}
@@ -16,7 +17,7 @@ use Rattle.law_clients.specs.Vacuum as vacuum
 use Rattle.law_clients.specs.Vacuum.{VacuumModel, VacuumModelOk}
 use Rattle.law_clients.specs.System.{ClientAt, Resting, Open, Reading, Committing, RunsVacuum, Stopped, ClientOk, Has, is_in_vacuum, Gate, SystemAt, SystemOk, with_client, IsBy}
 use Rattle.law_clients.proofs.Kept.{row_later}
-use Rattle.law_clients.proofs.Foreign.{IsForeignEvent, StopsNot, commit_later, open_later, foreign, goes_on, running, dead_stays}
+use Rattle.law_clients.proofs.Foreign.{SameFor, StopsNot, event_same, commit_later, open_later, foreign, goes_on, running, dead_stays}
 use Rattle.law_clients.proofs.Rows.{images_later, image_later, left_later}
 use Rattle.law_clients.proofs.Seen.{seen_later}
 use Rattle.law_protocol.proofs.Public.{open_before as open_ended}
@@ -51,13 +52,13 @@ sweep_later past q (vacuum.Resolving rec meta p left) ok = (recover_later past q
 sweep_later past q (vacuum.Removing b left) ok = (image_later past q b ok.0, ok.1, ok.2, left_later past q left ok.3)
 sweep_later past q vacuum.Between ok = tt
 
--- An event plays no part of a client's open transaction, nor stops the client.
-pub record Spares (d : ℕ) (x : ClientAt) (q : Labelled) : Type 0 where
-  pub parts : (t : ℕ) → Has x t → IsForeignEvent t d q
+-- After an event the state is the same for a client's open transaction, and the client hasn't stopped by it.
+pub record Spares (past : List Labelled) (d : ℕ) (x : ClientAt) (q : Labelled) : Type 0 where
+  pub parts : (t : ℕ) → Has x t → SameFor t d (protocol_state past) (protocol_state (q ∷ past))
   pub goes_on : StopsNot d q.action
 
 -- Such an event leaves what the client knows.
-pub client_later : (plan : ℕ → Plan) (past : List Labelled) (d : ℕ) (q : Labelled) (x : ClientAt) → Spares d x q → ClientOk plan past d x → ClientOk plan (q ∷ past) d x
+pub client_later : (plan : ℕ → Plan) (past : List Labelled) (d : ℕ) (q : Labelled) (x : ClientAt) → Spares past d x q → ClientOk plan past d x → ClientOk plan (q ∷ past) d x
 client_later plan past d q Resting f ok = running past q d f.goes_on ∙ ok
 client_later plan past d q (Open id seen) f ok = (open_later past q d id.0 (f.parts id.0 refl) ok.0, seen_later past q seen ok.1)
 client_later plan past d q (Reading id seen a r) f ok = (open_later past q d id.0 (f.parts id.0 refl) ok.0, seen_later past q seen ok.1, ok.2, read_later past q a r ok.3)
@@ -75,12 +76,12 @@ has_owner plan past d t (RunsVacuum v) ok h = absurd h
 has_owner plan past d t Stopped ok h = absurd h
 
 -- Another client's lawful event, which ends no transaction but its own client's, spares a client.
-pub others_spared : (plan : ℕ → Plan) (past : List Labelled) (c d : ℕ) (q : Labelled) (x : ClientAt) → c ≢ d → IsBy c q.event → IsEnabled plan past q.event q.action → ((u : ℕ) → q.ends ≡ Some u → (protocol_state past).owner u ≡ c) → ClientOk plan past d x → Spares d x q
+pub others_spared : (plan : ℕ → Plan) (past : List Labelled) (c d : ℕ) (q : Labelled) (x : ClientAt) → c ≢ d → IsBy c q.event → IsEnabled plan past q.event q.action → ((u : ℕ) → q.ends ≡ Some u → (protocol_state past).owner u ≡ c) → ClientOk plan past d x → Spares past d x q
 others_spared plan past c d q x apart by may own ok = record {
-  parts = λ t h. let o = has_owner plan past d t x ok h in record {
+  parts = λ t h. let o = has_owner plan past d t x ok h in event_same t d past q (record {
     part = foreign plan past d c t q.event q.action o.0 o.1 apart by may;
     ends = λ u e same. apart (sym (own u e) ∙ ap (protocol_state past).owner same ∙ o.0);
-  };
+  });
   goes_on = goes_on plan past d c q.event q.action apart by may;
 }
 
@@ -136,6 +137,24 @@ same_of d c t = grind (arith, nat_tests)
 pub apart_of : (d c : ℕ) → (d == c) ≡ false → c ≢ d
 apart_of d c f e = absurd (grind (arith, nat_tests))
 
+-- a client's event that is enabled may occur
+occurs : (plan : ℕ → Plan) (past : List Labelled) (c : ℕ) (e : Event) (r : Action) → IsBy c e → IsEnabled plan past e r → MayOccur plan past e r
+occurs plan past c (event.Take d text answered) r by m = m
+occurs plan past c (event.Call d store q how reply answered) r by m = m
+occurs plan past c (event.Stop d) r by m = m
+occurs plan past c (event.Clock moment) r by m = absurd by
+occurs plan past c (event.Idle d) r by m = m
+occurs plan past c (event.Land number store q how reply) r by m = absurd by
+
+-- and one that may occur is enabled
+pub enabled : (plan : ℕ → Plan) (past : List Labelled) (c : ℕ) (e : Event) (r : Action) → IsBy c e → MayOccur plan past e r → IsEnabled plan past e r
+enabled plan past c (event.Take d text answered) r by m = m
+enabled plan past c (event.Call d store q how reply answered) r by m = m
+enabled plan past c (event.Stop d) r by m = m
+enabled plan past c (event.Clock moment) r by m = absurd by
+enabled plan past c (event.Idle d) r by m = m
+enabled plan past c (event.Land number store q how reply) r by m = absurd by
+
 -- What a turn of a client has to show: its event is its own and lawful, ends nothing but its own and begins nothing; the client
 -- knows what it needs where it then is; a transaction of it that stays open is in its hands, and it starts no VACUUM.
 pub record Turn (plan : ℕ → Plan) (past : List Labelled) (sys : SystemAt) (c : ℕ) (q : Labelled) (x : ClientAt) : Type 0 where
@@ -159,7 +178,7 @@ with_here sys c x P d here there = on (d == c) refl
 -- Then all is so of all clients.
 pub turned : (plan : ℕ → Plan) (past : List Labelled) (sys : SystemAt) (c : ℕ) (q : Labelled) (x : ClientAt) → SystemOk plan past sys → Turn plan past sys c q x → SystemOk plan (q ∷ past) (with_client sys c x)
 turned plan past sys c q x ok t = record {
-  lawful = (ok.lawful, t.may, t.is_known, t.denies);
+  lawful = (ok.lawful, occurs plan past c q.event q.action t.by t.may, t.is_known, t.denies);
   each = λ d. with_here sys c x (ClientOk plan (q ∷ past)) d t.knows (λ apart. client_later plan past d q (sys.clients d) (others_spared plan past c d q (sys.clients d) apart t.by t.may t.ends (ok.each d)) (ok.each d));
   opened = λ u o. subst (λ d. ((protocol_state (q ∷ past)).stopped d ≡ true) ⊎ Has ((with_client sys c x).clients d) u) (sym (go.owner u)) (opened u o (ok.opened u (go.is_open u o)));
   gate = λ d s. gate_goes (protocol_state past) (protocol_state (q ∷ past)) go (with_here sys c x (λ e y. is_in_vacuum y ≡ true → Gate (protocol_state past)) d (λ s. ok.gate c (t.starts s)) (λ apart s. ok.gate d s) s);

@@ -75,14 +75,14 @@ unanswered_ends w a e = by (reads_commit w.text) (reads_rollback w.text) (sym (a
     by false true h = absurd (cc (h))
     by false false h = absurd (cc (h))
 
-unanswered_begins : (w : Executed) → w.answer ≡ None → begins w ≡ false
+pub unanswered_begins : (w : Executed) → w.answer ≡ None → begins w ≡ false
 unanswered_begins w a = ap (λ x. reads_begin w.text && is_done x) a ∙ by (reads_begin w.text)
   where
     by : (b : Bool) → (b && false) ≡ false
     by true = refl
     by false = refl
 
-unanswered_comes : (r : Rest) (w : Executed) → w.answer ≡ None → MayCome r w
+pub unanswered_comes : (r : Rest) (w : Executed) → w.answer ≡ None → MayCome r w
 unanswered_comes (Closed gap) w a = λ e. none_some answer.Committed (sym a ∙ e)
 unanswered_comes (Opened gap b body) w a = (unanswered_begins w a, λ n e. none_some answer.Committed (sym a ∙ e))
 
@@ -179,7 +179,7 @@ story_starts c = record {
     none k l = omega arith
 
 -- No transaction of ordinal 0 was accepted.
-no_first : (plan : ℕ → Plan) (past : List Labelled) (sys : SystemAt) (c : ℕ) → SystemOk plan past sys → (protocol_state past).accepted (c * 2 ^ 64) ≡ true → ⊥
+pub no_first : (plan : ℕ → Plan) (past : List Labelled) (sys : SystemAt) (c : ℕ) → SystemOk plan past sys → (protocol_state past).accepted (c * 2 ^ 64) ≡ true → ⊥
 no_first plan past sys c ok accepted = never (c * 2 ^ 64 % 2 ^ 64) (rest c) (accepted_begun plan past sys (c * 2 ^ 64) ok accepted)
   where
     rest : (c : ℕ) → c * 2 ^ 64 % 2 ^ 64 ≡ 0

@@ -17,6 +17,7 @@ use Rattle.sdb_phases.specs.declared.step.Outcome.TheVariants as outcome
 use Rattle.law_clients.specs.Owner.{CommitOk, StageOk, OverOk, AreAcknowledged, AskedTo, UnaskedFrom, CheckedTo}
 use Rattle.law_clients.specs.System.{IsBy}
 use Rattle.law_clients.specs.Reads.{OpenOk}
+use Rattle.law_clients.proofs.Delayed.{IsUnanswered}
 use Rattle.law_clients.proofs.Kept.{row_later}
 
 -- an event that is another's plays no part of a transaction, nor stops its client
@@ -116,6 +117,44 @@ same_for t c h r f = record {
   dead = dead_stays t c h r;
   met = met_stays t c h r;
 }
+
+---- landings
+
+-- A request that lands was asked before, and is answered nothing: the state is the same for each transaction.
+module _ (t c : ℕ) (h : ProtocolState) (action : Action) (late : IsUnanswered h action) where
+  landed_accepted : ((state_after_event h action).begun t ≡ h.begun t) × ((state_after_event h action).owner t ≡ h.owner t) × ((state_after_event h action).is_open t ≡ h.is_open t) × ((state_after_event h action).stopped c ≡ h.stopped c) × ((state_after_event h action).accepted t ≡ h.accepted t)
+  landed_accepted = grind (arith, nat_tests)
+
+  landed_stage : ((state_after_event h action).stage t ≡ h.stage t) × ((state_after_event h action).risked t ≡ h.risked t)
+  landed_stage = grind (arith, nat_tests)
+
+  landed_asked : (k : Key) → (state_after_event h action).asked t k ≡ h.asked t k
+  landed_asked k = grind (arith, tests)
+
+  landed_answered : (k : Key) → (state_after_event h action).answered t k ≡ h.answered t k
+  landed_answered k = grind (arith, tests)
+
+  landed_checked : (i : ℕ) → (state_after_event h action).checked t i ≡ h.checked t i
+  landed_checked i = grind (arith, nat_tests)
+
+  pub landed_same : SameFor t c h (state_after_event h action)
+  landed_same = record {
+    begun = landed_accepted.0;
+    owner = landed_accepted.1;
+    is_open = landed_accepted.2;
+    stopped = landed_accepted.3;
+    accepted = landed_accepted.4;
+    stage = landed_stage.0;
+    asked = landed_asked;
+    answered = landed_answered;
+    checked = landed_checked;
+    risked = landed_stage.1;
+    won = won_stays t c h action;
+    dead = dead_stays t c h action;
+    met = met_stays t c h action;
+  }
+
+---- the end of a transaction
 
 closed_open : (t u : ℕ) (h : ProtocolState) → u ≢ t → (state_after h (Ends u)).is_open t ≡ h.is_open t
 closed_open t u h ne = grind (arith, nat_tests)
@@ -222,9 +261,9 @@ stage_later plan past q c p (Over a) f ok = over_later plan past q p a c f ok
 within_later : (t c : ℕ) (h v : ProtocolState) → SameFor t c h v → InCommit h c t → InCommit v c t
 within_later t c h v s ok = record { accepted = s.accepted ∙ ok.accepted; is_open = s.is_open ∙ ok.is_open; owner = s.owner ∙ ok.owner; goes_on = s.stopped ∙ ok.goes_on }
 
--- Another client's event leaves a COMMIT as it was.
-pub commit_later : (plan : ℕ → Plan) (past : List Labelled) (q : Labelled) (c : ℕ) (p : Work) (s : Stage) → IsForeignEvent p.id.0 c q → CommitOk plan past c p s → CommitOk plan (q ∷ past) c p s
-commit_later plan past q c p s f ok = let same = event_same p.id.0 c past q f in record {
+-- An event after which the state is the same for its transaction leaves a COMMIT as it was.
+pub commit_later : (plan : ℕ → Plan) (past : List Labelled) (q : Labelled) (c : ℕ) (p : Work) (s : Stage) → SameFor p.id.0 c (protocol_state past) (protocol_state (q ∷ past)) → CommitOk plan past c p s → CommitOk plan (q ∷ past) c p s
+commit_later plan past q c p s same ok = record {
   work = ok.work;
   within = within_later p.id.0 c (protocol_state past) (protocol_state (q ∷ past)) same ok.within;
   begun = λ e. ok.begun (sym same.begun ∙ e);
@@ -270,9 +309,9 @@ goes_on plan past c d e (Removes k u) apart by m = tt
 goes_on plan past c d e (Ends u) apart by m = tt
 goes_on plan past c d e (Stops n) apart by m = λ same. apart (stopper d n e by m ∙ same)
 
--- An open transaction stays as it is while other parts are played.
-pub open_later : (past : List Labelled) (q : Labelled) (c t : ℕ) → IsForeignEvent t c q → OpenOk (protocol_state past) c t → OpenOk (protocol_state (q ∷ past)) c t
-open_later past q c t f ok = let same = event_same t c past q f in record {
+-- and an open transaction as it was
+pub open_later : (past : List Labelled) (q : Labelled) (c t : ℕ) → SameFor t c (protocol_state past) (protocol_state (q ∷ past)) → OpenOk (protocol_state past) c t → OpenOk (protocol_state (q ∷ past)) c t
+open_later past q c t same ok = record {
   fits = ok.fits;
   begun = λ e. ok.begun (sym same.begun ∙ e);
   owner = same.owner ∙ ok.owner;

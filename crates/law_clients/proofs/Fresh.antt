@@ -1,13 +1,14 @@
 -- Of a transaction that has not begun nothing is said.
-use Rattle.std.proofs.Common.{◌≡◌, ℕ, true, false, List, [], ◌∷◌, Option, Some, None, refl, arith}
+use Rattle.std.proofs.Common.{◌≡◌, ℕ, true, false, List, [], ◌∷◌, Option, Some, None, refl, arith, inl, inr}
 use Rattle.std.proofs.lemmas.Bool.Decides.{nat_tests}
 use Rattle.law_clients.specs.Types.{Event, Key}
 use Rattle.sdb_types.proofs.Public.{tests}
 use Rattle.law_protocol.specs.Plan.{Plan}
 use Rattle.law_protocol.specs.History as laws
 use Rattle.law_protocol.specs.History.{Action, Other, Begins, Takes, Prepares, Checks, Decides, Aborts, Rolls, Removes, Ends, Stops, ProtocolState, state_after_event, state_after}
-use Rattle.law_protocol.specs.Lawful.{Labelled, IsLawful, IsEnabled, protocol_state, ended}
-use Rattle.law_protocol.proofs.Public.{closed_still}
+use Rattle.law_protocol.specs.Lawful.{Labelled, IsLawful, IsEnabled, MayOccur, protocol_state, ended}
+use Rattle.law_protocol.proofs.Public.{closed_still, occurs_by}
+use Rattle.law_clients.proofs.Delayed.{IsUnanswered, delayed_unanswered}
 
 -- a transaction is open, and its COMMIT is accepted, only after it has begun; and its calls come only after its COMMIT was accepted
 pub record InTurn (h : ProtocolState) (t : ℕ) : Type 0 where
@@ -67,9 +68,29 @@ after_played plan past e (Removes k t) m = tt
 after_played plan past e (Ends t) m = tt
 after_played plan past e (Stops c) m = tt
 
+-- and so it is of a landing
+after_landed : (h : ProtocolState) (r : Action) → IsUnanswered h r → IsAfter h r
+after_landed h Other u = tt
+after_landed h (Begins t c) u = tt
+after_landed h (Takes t) u = absurd u
+after_landed h (Prepares t ks word) u = u.0
+after_landed h (Checks t i) u = absurd u
+after_landed h (Decides t word) u = u.0
+after_landed h (Aborts t n word) u = tt
+after_landed h (Rolls t ks d) u = tt
+after_landed h (Removes k t) u = tt
+after_landed h (Ends t) u = tt
+after_landed h (Stops c) u = tt
+
+after_any : (plan : ℕ → Plan) (past : List Labelled) (e : Event) (r : Action) → IsLawful plan past → MayOccur plan past e r → IsAfter (protocol_state past) r
+after_any plan past e r l may = elim (occurs_by plan past e r may) [
+  | inl m ↦ after_played plan past e r m
+  | inr x ↦ after_landed (protocol_state past) r (delayed_unanswered plan past x.request r l x.was)
+]
+
 pub in_turn : (plan : ℕ → Plan) (past : List Labelled) (t : ℕ) → IsLawful plan past → InTurn (protocol_state past) t
 in_turn plan [] t l = record { is_open = λ b. refl; accepted = λ b. refl; stage = λ f. refl; asked = λ k f. refl; risked = λ f. refl }
-in_turn plan (p ∷ past) t l = by p.ends (turn_kept (protocol_state past) p.action t (after_played plan past p.event p.action l.1) (in_turn plan past t l.0))
+in_turn plan (p ∷ past) t l = by p.ends (turn_kept (protocol_state past) p.action t (after_any plan past p.event p.action l.0 l.1) (in_turn plan past t l.0))
   where
     by : (o : Option ℕ) → InTurn (state_after_event (protocol_state past) p.action) t → InTurn (ended (state_after_event (protocol_state past) p.action) o) t
     by None one = one

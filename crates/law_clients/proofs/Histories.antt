@@ -156,3 +156,4 @@ others_silent events c d e apart by = executed_more c events e ∙ silent e by
     silent (event.Stop b) by = refl
     silent (event.Clock moment) by = refl
     silent (event.Idle b) by = refl
+    silent (event.Land number store q how r) by = absurd by

@@ -14,6 +14,7 @@ use Rattle.law_clients.specs.System.{ClientAt, SystemAt, SystemOk, Has, IsBy, wi
 use Rattle.law_clients.specs.Left.{Execution, BodyIsExecuted}
 use Rattle.law_clients.specs.BodyTexts.{BodyExecuted}
 use Rattle.law_clients.specs.History.{ClientHistory, HistoryInvariant, HistoryStep, AllStories, OthersUnchanged, IsCounted, with_history}
+use Rattle.law_clients.proofs.Clients.{enabled}
 use Rattle.law_clients.proofs.Histories.{story_stays, others_apart, others_silent}
 use Rattle.std.proofs.lemmas.List.{append-nil as no_more}
 use Rattle.sdb_types.proofs.Public.{map_last as told_more}
@@ -36,7 +37,8 @@ lawful_counts plan past e (laws.Stops c) m = tt
 
 other_story : (plan : ℕ → Plan) (events : List Event) (past : List Labelled) (sys next : SystemAt) (c d : ℕ) (q : Labelled) (x : ClientHistory) → SystemOk plan (q ∷ past) next → IsBy c q.event → OthersUnchanged c sys next → d ≢ c → HistoryInvariant events past sys d x → HistoryStep events past q next d x
 other_story plan events past sys next c d q x ok by others apart story =
-    story_stays events past sys next d x q story (lawful_counts plan past q.event q.action ok.lawful.1) (others_apart plan past d c q (λ e. apart (sym e)) by ok.lawful.1)
+    let may = enabled plan past c q.event q.action by ok.lawful.1 in
+    story_stays events past sys next d x q story (lawful_counts plan past q.event q.action may) (others_apart plan past d c q (λ e. apart (sym e)) by may)
     (record { begun = others.begun d apart; hold = λ t h. subst (λ y. Has y t) (others.clients d apart) h })
     (others_silent events d c q.event (λ e. apart (sym e)) by)
 

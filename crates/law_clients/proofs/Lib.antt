@@ -3,6 +3,7 @@ mod Meta
 mod Own
 mod Kept
 mod Reading
+mod Delayed
 mod Foreign
 mod Replan
 mod Rows
@@ -36,6 +37,7 @@ mod ReadRecords
 mod Checks
 mod Since
 mod Bodily
+mod Live
 mod OtherClients
 mod InvariantOwn
 mod InvariantReads
@@ -43,6 +45,7 @@ mod Mild
 mod Small
 mod InvariantTurns
 mod InvariantCalls
+mod Landings
 mod Rests
 mod InvariantEnds
 mod RowsFit

@@ -14,16 +14,18 @@ use Rattle.law_clients.proofs.Seen.{seen_later}
 use Rattle.law_clients.specs.Filed.{number}
 use Rattle.law_clients.specs.Left.{Execution}
 use Rattle.law_clients.specs.Story.{Closed, Finished, Opened, Rest, txn_ended_at}
-use Rattle.law_clients.specs.History.{IsApart, IsOpened, OthersUnchanged, HistoryInvariant, ClientHistory, HistoryStep, begun_in, with_history}
+use Rattle.law_clients.specs.History.{AllStories, IsApart, IsOpened, OthersUnchanged, HistoryInvariant, ClientHistory, HistoryStep, begun_in, with_history}
+use Rattle.law_clients.proofs.Clients.{enabled}
 use Rattle.law_clients.proofs.Histories.{SameOf, apart_at, opened_counts, others_apart, within}
 use Rattle.law_clients.proofs.HistoryTurns.{stories_turn}
 use Rattle.law_clients.specs.Invariant.{ClientInvariant, EndedOk, IsOpenOf, InsideOk, RunInvariant, OpenedOk, RanOk}
 use Rattle.law_clients.specs.ReadSets.{ReadSetsOfClient}
 use Rattle.law_clients.proofs.InvariantReads.{noted_stays, other_call}
+use Rattle.law_clients.proofs.Live.{agrees_then}
 
 ---- lists of events
 
-pub events_more : (labelled : List Labelled) (q : Labelled) → events_of (labelled ++ q ∷ []) ≡ events_of labelled ++ q.event ∷ []
+events_more : (labelled : List Labelled) (q : Labelled) → events_of (labelled ++ q ∷ []) ≡ events_of labelled ++ q.event ∷ []
 events_more [] q = refl
 events_more (p ∷ labelled) q = ap (λ es. p.event ∷ es) (events_more labelled q)
 
@@ -31,7 +33,7 @@ newest_from : (older labelled : List Labelled) (q : Labelled) → fold (λ newer
 newest_from older [] q = refl
 newest_from older (p ∷ labelled) q = newest_from (p ∷ older) labelled q
 
-pub newest_more : (labelled : List Labelled) (q : Labelled) → newest_first (labelled ++ q ∷ []) ≡ q ∷ newest_first labelled
+newest_more : (labelled : List Labelled) (q : Labelled) → newest_first (labelled ++ q ∷ []) ≡ q ∷ newest_first labelled
 newest_more labelled q = newest_from [] labelled q
 
 ---- one transaction, later
@@ -63,6 +65,41 @@ kept_apart catalog fit plan next events past sys q c x ran same story apart ende
   opened_later catalog fit plan next past q (number c (length x.whole)) x.rest (ran (length x.whole)) same (λ o. apart_at events past sys c x q (length x.whole) story apart (opened_counts (length x.whole) x.rest o)) opened,
 )
 
+---- one event more
+
+-- What holds after one event more: the rules and what all know, each client's history, its transactions, and what these have read.
+pub record Preserved (catalog : List Table) (fit : Tables → Bool) (events : List Event) (sys next : SystemAt) (doing runs : ℕ → Option Statement) (g : RunInvariant catalog fit events sys doing) (q : Labelled) : Type 0 where
+  pub plan : ℕ → Plan
+  pub answered : ℕ → ClientHistory
+  pub ran : ℕ → ℕ → Execution
+  pub system : SystemOk plan (q ∷ g.past) next
+  pub stories : AllStories (events ++ q.event ∷ []) (q ∷ g.past) next answered
+  pub clients : (c : ℕ) → ClientInvariant catalog fit plan (q ∷ g.past) c (runs c) (next.clients c) (answered c) (ran c)
+  pub as_read : (c : ℕ) → ReadSetsOfClient (events ++ q.event ∷ []) c (next.clients c) (answered c) (ran c)
+
+-- the invariant then
+pub preserved : (catalog : List Table) (fit : Tables → Bool) (events : List Event) (sys next : SystemAt) (doing runs : ℕ → Option Statement) (g : RunInvariant catalog fit events sys doing) (q : Labelled) → Preserved catalog fit events sys next doing runs g q → RunInvariant catalog fit (events ++ q.event ∷ []) next runs
+preserved catalog fit events sys next doing runs g q p = record {
+  plan = p.plan;
+  labelled = g.labelled ++ q ∷ [];
+  past = q ∷ g.past;
+  answered = p.answered;
+  ran = p.ran;
+  same = same;
+  turned = newest;
+  system = p.system;
+  stories = p.stories;
+  clients = p.clients;
+  as_read = p.as_read;
+  agrees = agrees_then catalog fit p.plan (events ++ q.event ∷ []) g.labelled q (q ∷ g.past) next runs p.answered p.ran same newest g.agrees p.system p.stories p.clients;
+}
+  where
+    same : events ++ q.event ∷ [] ≡ events_of (g.labelled ++ q ∷ [])
+    same = ap (λ es. es ++ q.event ∷ []) g.same ∙ sym (events_more g.labelled q)
+
+    newest : q ∷ g.past ≡ newest_first (g.labelled ++ q ∷ [])
+    newest = ap (λ ps. q ∷ ps) g.turned ∙ sym (newest_more g.labelled q)
+
 ---- a turn
 
 -- What one turn of a client owes: the rules and what all know, its story, its own transactions, and what these have read.
@@ -79,19 +116,15 @@ pub record Turn (catalog : List Table) (fit : Tables → Bool) (events : List Ev
   pub as_read : ReadSetsOfClient (events ++ q.event ∷ []) c (next.clients c) x ran
 
 pub turned : (catalog : List Table) (fit : Tables → Bool) (events : List Event) (sys next : SystemAt) (doing : ℕ → Option Statement) (g : RunInvariant catalog fit events sys doing) (c : ℕ) (d : Option Statement) (q : Labelled) → Turn catalog fit events sys next doing g c d q → RunInvariant catalog fit (events ++ q.event ∷ []) next (at doing c d)
-turned catalog fit events sys next doing g c d q t = record {
+turned catalog fit events sys next doing g c d q t = preserved catalog fit events sys next doing (at doing c d) g q (record {
   plan = t.plan;
-  labelled = g.labelled ++ q ∷ [];
-  past = q ∷ g.past;
   answered = with_history g.answered c t.x;
   ran = at g.ran c t.ran;
-  same = ap (λ es. es ++ q.event ∷ []) g.same ∙ sym (events_more g.labelled q);
-  turned = ap (λ ps. q ∷ ps) g.turned ∙ sym (newest_more g.labelled q);
   system = t.system;
   stories = stories_turn t.plan events g.past sys next c q g.answered t.x t.system t.by t.others g.stories t.story;
   clients = λ e. on e (e == c) refl;
   as_read = λ e. noted_on e (e == c) refl;
-}
+})
   where
     is : (e c : ℕ) → (e == c) ≡ true → c ≡ e
     is e c h = grind (arith, nat_tests)
@@ -102,7 +135,7 @@ turned catalog fit events sys next doing g c d q t = record {
     other : (e : ℕ) → e ≢ c → ClientInvariant catalog fit t.plan (q ∷ g.past) e (doing e) (next.clients e) (g.answered e) (g.ran e)
     other e n =
         let was = g.clients e in
-        let kept = kept_apart catalog fit g.plan t.plan events g.past sys q e (g.answered e) (g.ran e) t.same (g.stories e) (others_apart t.plan g.past e c q (λ h. n (sym h)) t.by t.system.lawful.1) was.ended was.opened in
+        let kept = kept_apart catalog fit g.plan t.plan events g.past sys q e (g.answered e) (g.ran e) t.same (g.stories e) (others_apart t.plan g.past e c q (λ h. n (sym h)) t.by (enabled t.plan g.past c q.event q.action t.by t.system.lawful.1)) was.ended was.opened in
         record { ended = kept.0; opened = kept.1; next_state = subst (IsOpenOf (doing e) (g.answered e) (g.ran e (length (g.answered e).whole))) (sym (t.others.clients e n)) was.next_state }
 
     on : (e : ℕ) (b : Bool) → (e == c) ≡ b → ClientInvariant catalog fit t.plan (q ∷ g.past) e (if b then d else doing e) (next.clients e) (if b then t.x else g.answered e) (if b then t.ran else g.ran e)

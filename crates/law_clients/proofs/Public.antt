@@ -21,7 +21,7 @@ pub use Rattle.law_clients.proofs.Plain.{own_at}
 pub use Rattle.law_clients.proofs.ReadReplies.{ended}
 pub use Rattle.law_clients.proofs.Replied.{ended_is, next_stage, replies_so}
 pub use Rattle.law_clients.proofs.Replies.{replies}
-pub use Rattle.law_clients.proofs.Rests.{invariant_rests, invariant_starts}
+pub use Rattle.law_clients.proofs.Rests.{invariant_lands, invariant_rests, invariant_starts}
 pub use Rattle.law_clients.proofs.RowsFit.{Entries, all_in_fit, answers_on, done_is, fits_there, found_itself, is_fitting}
 pub use Rattle.law_clients.proofs.SessionCalls.{called}
 pub use Rattle.law_clients.proofs.SessionFresh.{chain_more, fresh_ids, reached}

@@ -1,11 +1,11 @@
 -- Turns that play no part: statements accepted and answered, moves of the clock, idle steps; and moves without an event.
-use Rattle.std.proofs.Common.{◌≡◌, ℕ, Bool, true, false, List, ◌∷◌, refl, sym, ap, subst, ◌∙◌, ◌⊎◌, inl, inr}
+use Rattle.std.proofs.Common.{◌≡◌, ℕ, true, false, List, ◌∷◌, refl, sym, ap, subst, ◌∙◌, ◌⊎◌, inl, inr}
 use Rattle.law_clients.specs.Types.{Access, Event, Keyed, Record, Span, TxId}
 use Rattle.sdb_record.specs.declared.access.Access.TheVariants as access
 use Rattle.sdb_model.specs.declared.event.Event.TheVariants as event
 use Rattle.law_protocol.specs.Plan.{Plan}
 use Rattle.law_protocol.specs.History.{Other, Stops, ProtocolState, state_after_event}
-use Rattle.law_protocol.specs.Lawful.{Labelled, protocol_state, labelled_with, ends_with}
+use Rattle.law_protocol.specs.Lawful.{Labelled, MayOccur, is_quiet, protocol_state, labelled_with, ends_with}
 use Rattle.sdb_snapshot.specs.Seen.{Seen, with_written}
 use Rattle.sdb_snapshot.specs.Written.{AreChanges}
 use Rattle.law_clients.specs.Reads.{OpenOk, SeenOk, with_read, MayRecord}
@@ -14,18 +14,27 @@ use Rattle.law_clients.specs.Vacuum.{VacuumModel, Scanning}
 use Rattle.law_clients.specs.System.{ClientAt, Resting, Open, Reading, Committing, RunsVacuum, Stopped, ClientOk, Has, has_open, is_in_vacuum, Gate, SystemAt, SystemOk, with_client, IsBy, IsInState, IsQuiet, NoneOpen}
 use Rattle.law_clients.proofs.Clients.{turned, moved, Spares, client_later}
 use Rattle.law_clients.proofs.Commit.{no_start, not_open}
+use Rattle.law_clients.proofs.Foreign.{event_same}
 use Rattle.law_clients.proofs.Seen.{read_noted, write_kept}
-use Rattle.sdb_types.proofs.Public.{some_is}
+use Rattle.sdb_types.proofs.Public.{clash as apart_bools, some_is}
 
 ---- events without a part
 
-quiet_spares : (d : ℕ) (x : ClientAt) (e : Event) → Spares d x (labelled_with Other e)
-quiet_spares d x e = record { parts = λ t h. record { part = tt; ends = λ u n. absurd (cc (n)) }; goes_on = tt }
+quiet_spares : (past : List Labelled) (d : ℕ) (x : ClientAt) (e : Event) → Spares past d x (labelled_with Other e)
+quiet_spares past d x e = record { parts = λ t h. event_same t d past (labelled_with Other e) (record { part = tt; ends = λ u n. absurd (cc (n)) }); goes_on = tt }
+
+quiet_occurs : (plan : ℕ → Plan) (past : List Labelled) (e : Event) → is_quiet e ≡ true → MayOccur plan past e Other
+quiet_occurs plan past (event.Take d text answered) q = q
+quiet_occurs plan past (event.Call d store ask how r answered) q = q
+quiet_occurs plan past (event.Stop d) q = q
+quiet_occurs plan past (event.Clock moment) q = q
+quiet_occurs plan past (event.Idle d) q = q
+quiet_occurs plan past (event.Land number store ask how r) q = apart_bools (sym q)
 
 pub quiet_turn : (plan : ℕ → Plan) (past : List Labelled) (sys : SystemAt) (e : Event) → SystemOk plan past sys → IsQuiet e → SystemOk plan (labelled_with Other e ∷ past) sys
 quiet_turn plan past sys e ok quiet = record {
-  lawful = (ok.lawful, quiet.quiet, λ a. absurd (quiet.other a), λ a executed denial u ends accepted. absurd (cc (ends)));
-  each = λ d. client_later plan past d (labelled_with Other e) (sys.clients d) (quiet_spares d (sys.clients d) e) (ok.each d);
+  lawful = (ok.lawful, quiet_occurs plan past e quiet.quiet, λ a. absurd (quiet.other a), λ a executed denial u ends accepted. absurd (cc (ends)));
+  each = λ d. client_later plan past d (labelled_with Other e) (sys.clients d) (quiet_spares past d (sys.clients d) e) (ok.each d);
   opened = ok.opened;
   gate = ok.gate;
   ids = λ u b. let i = ok.ids u b in record { ordinal = i.ordinal; most = i.most; owner = i.owner };

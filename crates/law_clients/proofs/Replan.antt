@@ -4,10 +4,13 @@ use Rattle.std.specs.Option.{option_map}
 use Rattle.std.proofs.lemmas.Bool.Decides.{nat_tests}
 use Rattle.law_clients.specs.Types.{Event, Key, Record}
 use Rattle.sdb_record.specs.declared.coordinator.Decision.TheVariants as decision
+use Rattle.sdb_model.specs.declared.event.Event.TheVariants as event
 use Rattle.law_protocol.specs.Plan.{Plan, write_at, written, version_read_at}
 use Rattle.law_protocol.specs.History.{Action, Other, Begins, Takes, Prepares, Checks, Decides, Aborts, Rolls, Removes, Ends, Stops, ProtocolState, Ack, state_after_event}
-use Rattle.law_protocol.specs.Lawful.{Labelled, protocol_state, ended, id, IsLawful, IsEnabled, MayTake, MayPrepare, MayCheck, MayDecide, MayRoll, IsUnchanged, IsPreparedThere, IsKnownCommitted}
+use Rattle.law_protocol.specs.Lawful.{Labelled, protocol_state, ended, id, IsLawful, IsEnabled, MayOccur, MayTake, MayPrepare, MayCheck, MayDecide, MayRoll, IsUnchanged, IsPreparedThere, IsKnownCommitted}
+use Rattle.law_protocol.proofs.Public.{occurs_by}
 use Rattle.law_clients.specs.System.{SamePlans}
+use Rattle.law_clients.proofs.Delayed.{IsUnanswered, delayed_unanswered}
 use Rattle.sdb_types.proofs.Public.{clash, decides as is_taken, tests}
 
 -- before its COMMIT is accepted nothing is said of a transaction's calls
@@ -45,9 +48,29 @@ after_played plan past e (Removes k t) m = tt
 after_played plan past e (Ends t) m = tt
 after_played plan past e (Stops c) m = tt
 
+-- and so it is of a landing
+after_landed : (h : ProtocolState) (r : Action) → IsUnanswered h r → IsAfter h r
+after_landed h Other u = tt
+after_landed h (Begins t c) u = tt
+after_landed h (Takes t) u = tt
+after_landed h (Prepares t ks word) u = u.0
+after_landed h (Checks t i) u = tt
+after_landed h (Decides t word) u = u.0
+after_landed h (Aborts t n word) u = tt
+after_landed h (Rolls t ks d) u = tt
+after_landed h (Removes k t) u = tt
+after_landed h (Ends t) u = tt
+after_landed h (Stops c) u = tt
+
+after_any : (plan : ℕ → Plan) (past : List Labelled) (e : Event) (r : Action) → IsLawful plan past → MayOccur plan past e r → IsAfter (protocol_state past) r
+after_any plan past e r l may = elim (occurs_by plan past e r may) [
+  | inl m ↦ after_played plan past e r m
+  | inr x ↦ after_landed (protocol_state past) r (delayed_unanswered plan past x.request r l x.was)
+]
+
 pub unsaid : (plan : ℕ → Plan) (past : List Labelled) (t : ℕ) → IsLawful plan past → Unsaid (protocol_state past) t
 unsaid plan [] t l = record { asked = λ k f. refl; won = λ f. refl }
-unsaid plan (p ∷ past) t l = by p.ends (unsaid_kept (protocol_state past) p.action t (after_played plan past p.event p.action l.1) (unsaid plan past t l.0))
+unsaid plan (p ∷ past) t l = by p.ends (unsaid_kept (protocol_state past) p.action t (after_any plan past p.event p.action l.0 l.1) (unsaid plan past t l.0))
   where
     by : (o : Option ℕ) → Unsaid (state_after_event (protocol_state past) p.action) t → Unsaid (ended (state_after_event (protocol_state past) p.action) o) t
     by None one = one
@@ -159,12 +182,21 @@ play_other plan other past e (Removes k t) l same m = m
 play_other plan other past e (Ends t) l same m = m
 play_other plan other past e (Stops c) l same m = m
 
+-- a landing quotes no plan
+occur_other : (plan other : ℕ → Plan) (past : List Labelled) (e : Event) (r : Action) → IsLawful plan past → ((t : ℕ) → (state_after_event (protocol_state past) r).accepted t ≡ true → plan t ≡ other t) → MayOccur plan past e r → MayOccur other past e r
+occur_other plan other past (event.Take c text answered) r l same m = play_other plan other past (event.Take c text answered) r l same m
+occur_other plan other past (event.Call c store q how reply answered) r l same m = play_other plan other past (event.Call c store q how reply answered) r l same m
+occur_other plan other past (event.Stop c) r l same m = play_other plan other past (event.Stop c) r l same m
+occur_other plan other past (event.Clock moment) r l same m = play_other plan other past (event.Clock moment) r l same m
+occur_other plan other past (event.Idle c) r l same m = play_other plan other past (event.Idle c) r l same m
+occur_other plan other past (event.Land number store q how reply) r l same m = m
+
 -- The rules so far hold with other plans too, as long as those of the transactions whose COMMIT was accepted are the same.
 pub replanned : (plan other : ℕ → Plan) (past : List Labelled) → SamePlans plan other past → IsLawful plan past → IsLawful other past
 replanned plan other [] same l = tt
 replanned plan other (p ∷ past) same l = (
   replanned plan other past (λ t e. same t (ended_taken (state_after_event (protocol_state past) p.action) p.ends t ∙ taken_before (protocol_state past) p.action t e)) l.0,
-  play_other plan other past p.event p.action l.0 (λ t e. same t (ended_taken (state_after_event (protocol_state past) p.action) p.ends t ∙ e)) l.1,
+  occur_other plan other past p.event p.action l.0 (λ t e. same t (ended_taken (state_after_event (protocol_state past) p.action) p.ends t ∙ e)) l.1,
   λ a. let m = l.2 a in record { t = m.t; ends = m.ends; accepted = m.accepted; moment = m.moment; known = known_other plan other (p ∷ past) m.t m.moment l same m.known },
   l.3,
 )

@@ -31,6 +31,7 @@ made_at c n (event.Take d text a) bound l = tt
 made_at c n (event.Stop d) bound l = tt
 made_at c n (event.Clock m) bound l = tt
 made_at c n (event.Idle d) bound l = tt
+made_at c n (event.Land number store q how r) bound l = tt
 
 from_within : (c n bound : ℕ) (es : List Event) → n + length es ≤ bound + 1 → AllByRecursion (IsWithin bound) (filter_map (made_by c) (enumerate_from n es))
 from_within c n bound [] l = tt
@@ -106,6 +107,7 @@ since_more events c n e l = ap (filter (λ m. nat_lt n m.at)) (calls_more events
     kept (event.Stop d) = refl
     kept (event.Clock x) = refl
     kept (event.Idle d) = refl
+    kept (event.Land number store q how r) = refl
 
 ---- the calls of a statement
 
@@ -142,3 +144,4 @@ calls_stay events c s e was = ap (λ n. filter (λ m. nat_lt s.accepted m.at && 
     beyond (event.Stop d) = tt
     beyond (event.Clock x) = tt
     beyond (event.Idle d) = tt
+    beyond (event.Land number store q how r) = tt

@@ -58,7 +58,7 @@ pub data Waits (catalog : List Table) (was : Database) (now : ℤ) (st : Stateme
 ---- how it ends
 
 -- A COMMIT has this answer. It is committed, plain tables that were the images are now the images with its writes over them, and no other image
--- changed; or it never will be, and each image is as it was.
+-- changed; or it isn't, and each image is as it was.
 pub data CommitEnds (catalog : List Table) (was g : Database) (id : TxId) (now : ℤ) (s : Seen) (z : Answer) : Type 0 where
   Won : (replied : (z ≡ answer.Committed) ⊎ (z ≡ answer.Unknown id)) (decided : IsCommittedAt g id now) (left : (d : Tables) → AreImagesOf catalog was d → AreImagesOf catalog g (with_own d s.writes)) (written : HasWritten catalog (is_written s.writes) was g) → CommitEnds catalog was g id now s z
   Lost : (replied : (z ≡ answer.Faulted) ⊎ ((z ≡ answer.NoMemory) ⊎ (z ≡ answer.Unknown id))) (decided : IsUndecided g id ⊎ IsAborted g id) (left : (d : Tables) → AreImagesOf catalog was d → AreImagesOf catalog g d) (images : SameImages catalog was g) → CommitEnds catalog was g id now s z

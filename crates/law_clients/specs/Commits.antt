@@ -75,7 +75,7 @@ pub record ArePrepared (p : Work) (n : ℕ) (g : Database) : Type 0 where
   pub below : (j : ℕ) (w : Write) → j < n → slice_get p.writes j ≡ Some w → IsPrepared p w (g w.key)
   pub from : (j : ℕ) (w : Write) → n ≤ j → slice_get p.writes j ≡ Some w → IsBased p w (g w.key)
 
--- it isn't committed, and never will be
+-- it isn't committed, and no call of its client that is still to come commits it
 abbrev pub IsGivenUp : Work → Database → Type 0
 IsGivenUp p g = (IsUndecided g p.id ⊎ IsAborted g p.id) × EachWrite p (IsLoose p) g
 

@@ -64,7 +64,7 @@ WorksAfterFault None None = ⊥
 abbrev pub IsAfterFault : ClientAt → Type 0
 IsAfterFault c = WorksAfterFault c.vacuum c.txn
 
--- A statement has an answer for which a store has to have failed; or it waits for a reply after a fault.
+-- A statement has an answer that comes only after a call faulted; or it waits for a reply after a fault.
 abbrev pub IsOfFault : Option Answer → ClientAt → Type 0
 IsOfFault (Some z) d = is_of_fault z ≡ true
 IsOfFault None d = IsAfterFault d

@@ -1,13 +1,17 @@
 -- The invariant between the events so far and the clients: what all know, the story of each, and what the statements of each
 -- transaction come to.
-use Rattle.std.specs.Prelude.{◌≡◌, ◌≢◌, ◌⊎◌, ℕ, Bool, true, false, List, length, Option, Some, None}
-use Rattle.law_clients.specs.Types.{Answer, Event, Statement, Table}
+use Rattle.std.specs.Prelude.{◌≡◌, ◌≢◌, ◌⊎◌, ℕ, Bool, true, false, List, length, Option, Some, None, Contains}
+use Rattle.law_clients.specs.Types.{Answer, Event, Request, Statement, Table}
+use Rattle.sdb_types.specs.declared.record.Reply.TheVariants as reply
 use Rattle.sdb_model.specs.declared.answer.Answer.TheVariants as answer
 use Rattle.sdb_model.specs.declared.event.Event.TheVariants as event
+use Rattle.sdb_model.specs.declared.event.How.TheVariants.{Delayed}
 use Rattle.sdb_model.specs.Exec.{Tables}
+use Rattle.sdb_model.specs.Rows.{Name}
 use Rattle.sdb_model.specs.Sql.{Reads, reads_begin, reads_commit, reads_rollback}
 use Rattle.sdb_model.specs.Transactions.{Executed, is_conflict, is_done}
 use Rattle.law_protocol.specs.Explained.{events_of, newest_first}
+use Rattle.law_protocol.specs.Faithful.{AgreesOnOpen}
 use Rattle.law_protocol.specs.Lawful.{Labelled, id, protocol_state}
 use Rattle.law_protocol.specs.Plan.{Plan}
 use Rattle.law_clients.specs.Reads.{SeenOk, work_of}
@@ -92,8 +96,8 @@ pub record ClientInvariant (catalog : List Table) (fit : Tables → Bool) (plan 
 
 ---- all clients
 
--- The invariant between the events so far, with actions that obey the rules, the states of the clients, the statements that they run,
--- and what these read.
+-- The invariant between the events so far, with actions that obey the rules and agree with the texts, the states of the clients, the
+-- statements that they run, and what these read.
 pub record RunInvariant (catalog : List Table) (fit : Tables → Bool) (events : List Event) (sys : SystemAt) (doing : ℕ → Option Statement) : Type 0 where
   pub plan : ℕ → Plan
   pub labelled : List Labelled
@@ -106,6 +110,7 @@ pub record RunInvariant (catalog : List Table) (fit : Tables → Bool) (events :
   pub stories : AllStories events past sys answered
   pub clients : (c : ℕ) → ClientInvariant catalog fit plan past c (doing c) (sys.clients c) (answered c) (ran c)
   pub as_read : (c : ℕ) → ReadSetsOfClient events c (sys.clients c) (answered c) (ran c)
+  pub agrees : AgreesOnOpen labelled
 
 ---- events
 
@@ -114,6 +119,18 @@ abbrev pub IsSilent : Event → Type 0
 IsSilent (event.Clock moment) = Unit {0}
 IsSilent (event.Idle d) = Unit {0}
 IsSilent e = ⊥
+
+-- a call of this request was delayed, and its client was answered a fault
+pub record HasDelayed (events : List Event) (q : Request) : Type 0 where
+  pub client : ℕ
+  pub store : Name
+  pub answered : Option Answer
+  pub call : Contains events (event.Call client store q Delayed reply.Fault answered)
+
+-- the event lands a request of such a call
+abbrev pub LandsDelayed : List Event → Event → Type 0
+LandsDelayed events (event.Land number store q how r) = HasDelayed events q
+LandsDelayed events e = ⊥
 
 -- an answer that is neither Done, nor Conflict, nor Committed
 pub record IsMild (a : Answer) : Type 0 where

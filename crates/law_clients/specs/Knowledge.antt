@@ -1,11 +1,13 @@
 -- The events so far with the invariant of all clients, and its preservation by turns and moves.
 use Rattle.std.specs.Prelude.{◌≡◌, ◌≢◌, ◌++◌, ℕ, List, ◌∷◌, Option, Some}
 use Rattle.std.specs.List.{AllByRecursion}
-use Rattle.law_clients.specs.Types.{Access, Answer, Meta, Record, RecoverPhase, Span, TxId}
+use Rattle.law_clients.specs.Types.{Access, Answer, How, Meta, Record, RecoverPhase, Reply, Request, Span, TxId}
 use Rattle.sdb_record.specs.declared.access.Access.TheVariants as access
 use Rattle.sdb_model.specs.declared.answer.Answer.TheVariants as answer
+use Rattle.sdb_model.specs.declared.event.Event.TheVariants as event
+use Rattle.sdb_model.specs.Rows.{Name}
 use Rattle.law_protocol.specs.History.{Action}
-use Rattle.law_protocol.specs.Lawful.{IsEnabled, Labelled, ends_with, labelled_with}
+use Rattle.law_protocol.specs.Lawful.{IsEnabled, Labelled, WasDelayed, ends_with, labelled_with}
 use Rattle.law_protocol.specs.Plan.{Plan}
 use Rattle.sdb_phases.specs.Commit.{Stage, pending, step}
 use Rattle.sdb_phases.specs.Recover.{recover_next, recover_request_at}
@@ -148,6 +150,22 @@ recovery_action r = recover_action r.rec r.meta r.phase r.call.reply
 -- the recovery knows what its next call needs
 abbrev pub RecoversOn : {past : List Labelled} → RecoverReply past → Option Answer → Type 0
 RecoversOn {past} r answered = RecoverOk (labelled_with (recovery_action r) (call_event r.call answered) ∷ past) r.rec r.meta (recover_next r.rec r.meta r.phase r.call.now r.call.reply).0
+
+---- landings
+
+-- A request whose call was delayed, with the action of this call, and its landing.
+pub record Landing (past : List Labelled) : Type 0 where
+  pub number : ℕ
+  pub store : Name
+  pub request : Request
+  pub how : How
+  pub reply : Reply
+  pub action : Action
+  pub was : WasDelayed past request action
+
+-- the event, with this action
+abbrev pub landing_labelled : {past : List Labelled} → Landing past → Labelled
+landing_labelled l = labelled_with l.action (event.Land l.number l.store l.request l.how l.reply)
 
 ---- other clients and rows
 

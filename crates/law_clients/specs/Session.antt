@@ -1,4 +1,5 @@
--- A session: one client, whose statements are accepted and answered one after the other, and its meaning over whatever the stores contained.
+-- A session: one client, whose statements are accepted and answered one after the other, each of whose calls takes effect at once or never,
+-- and its meaning over whatever the stores contained.
 use Rattle.std.specs.Prelude.{◌≡◌, ◌≢◌, ◌⊎◌, ℕ, ℤ, Bool, true, false, ◌&&◌, ◌||◌, is_some, if◌then◌else◌, List, [], ◌∷◌, ◌++◌, map, filter, fold, count_by, Option, Some, None, Result, Ok, Err, IfSome, Contains}
 use Rattle.std.specs.Option.{option_map, option_map_or}
 use Rattle.std.specs.List.{AllByRecursion}
@@ -152,7 +153,7 @@ pub record IsAccepted (catalog : List Table) (opened : Bool) (e : Exchange) : Ty
 abbrev pub AreAccepted : List Table → List Exchange → Type 0
 AreAccepted catalog es = (front : List Exchange) (e : Exchange) (back : List Exchange) → es ≡ front ++ e ∷ back → IsAccepted catalog (is_some (parts_of front).opened) e
 
--- an answer for which a store has to have failed
+-- an answer that comes only after a call faulted
 abbrev pub is_of_fault : Answer → Bool
 is_of_fault answer.Faulted = true
 is_of_fault (answer.Unknown id) = true

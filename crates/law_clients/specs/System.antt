@@ -113,6 +113,7 @@ IsBy d (event.Call c store q how r answer) = c ≡ d
 IsBy d (event.Stop c) = c ≡ d
 IsBy d (event.Clock moment) = ⊥
 IsBy d (event.Idle c) = c ≡ d
+IsBy d (event.Land number store q how r) = ⊥
 
 -- an event ends no transaction but one of that client
 abbrev pub EndsOwn : List Labelled → ℕ → Labelled → Type 0

@@ -4,7 +4,7 @@ ghost use Rattle.sdb_model.specs.declared.event.Event.{Event};
 ghost use Rattle.sdb_model.specs.declared.event.Event.TheVariants as event;
 ghost use Rattle.law_protocol.specs.History.{Other, Stops};
 ghost use Rattle.law_protocol.specs.Lawful.{labelled_with, ends_with};
-ghost use Rattle.law_clients.specs.Knowledge.{AnsweredRead, VacuumReplyAt, CommitReply, Knowledge, MayBegin, OpenClient, StartsCommitWith, TurnsAt, TurnsTo, commit_next, read_after, read_ended, read_labelled, vacuum_after, vacuum_labelled, with_opened};
+ghost use Rattle.law_clients.specs.Knowledge.{AnsweredRead, VacuumReplyAt, CommitReply, Knowledge, MayBegin, OpenClient, Landing, StartsCommitWith, TurnsAt, TurnsTo, commit_next, landing_labelled, read_after, read_ended, read_labelled, vacuum_after, vacuum_labelled, with_opened};
 ghost use Rattle.law_clients.specs.Reads.{work_of};
 ghost use Rattle.law_clients.specs.System.{IsBy, IsCommit, IsQuiet, Resting, Stopped, begin_labelled, commit_left, commit_labelled};
 
@@ -44,6 +44,11 @@ pub fn vacuum_turn()
 pub fn quiet_turn()
     ensures stays { (k : Knowledge) (e : Event) → IsQuiet e → TurnsTo k (labelled_with Other e) k.sys }
     ensures ends { (k : Knowledge) (o : OpenClient k.sys) (e : Event) → IsBy o.client e → IsQuiet e → TurnsAt k (ends_with o.id.0 Other e) o.client Resting }
+{}
+
+/// A request whose call was delayed lands, wherever its client is, and whether or not it has stopped: all clients are where they were.
+pub fn land_turn()
+    ensures { (k : Knowledge) (l : Landing k.past) → TurnsTo k (landing_labelled l) k.sys }
 {}
 
 /// A client stops, wherever it is.

@@ -3,14 +3,11 @@ use Rattle.std.proofs.Common.{◌≡◌, ◌≢◌, ℕ, ◌<◌, Bool, true, fa
 use Rattle.sdb_types.specs.declared.key.Key.{Key}
 use Rattle.law_protocol.specs.Plan.{Plan, written, deletes, version_read_at}
 use Rattle.law_protocol.specs.History.{Action, Other, Begins, Takes, Prepares, Checks, Decides, Aborts, Rolls, Removes, Ends, Stops, Ack, NoAck, is_yes, is_met, is_out_of_memory_ack, Preparing, Deciding, ProtocolState, History, Final, Held, base_of, has_key, has_version, IsLive, IsWriter, IsPrepared}
+use Rattle.law_protocol.specs.Flight.{IsLate}
 
 -- a prepare of keys that its client makes: none of them was asked before
 abbrev pub IsFirst : ProtocolState → ℕ → List Key → Type 0
 IsFirst h t ks = IsLive h t × (h.stage t ≡ Preparing) × ((k : Key) → has_key ks k ≡ true → h.asked t k ≡ false)
-
--- one that takes effect late: all of them were asked, none was acknowledged
-abbrev pub IsLate : ProtocolState → ℕ → List Key → Ack → Type 0
-IsLate h t ks word = ((k : Key) → has_key ks k ≡ true → (h.asked t k ≡ true) × (h.answered t k ≡ false)) × (word ≡ NoAck)
 
 abbrev pub Allowed : (ℕ → Plan) → History → Action → Bool → Type 0
 Allowed plan w (Begins t c) done = (w.protocol.begun t ≡ 0) × (w.protocol.accepted t ≡ false)

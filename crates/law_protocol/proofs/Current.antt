@@ -26,7 +26,7 @@ use Rattle.sdb_model.specs.Explained as model
 use Rattle.sdb_model.specs.Explained.{IsTableKey, IsPreparedAfter, Observes, UnchangedResolved, IsOfOrLater, WritesPersist, IsLastBefore, ReadsCurrent, closing_of}
 use Rattle.law_protocol.specs.Plan.{Plan, written, deletes, is_delete, version_read_at, number_of}
 use Rattle.law_protocol.specs.History.{Action, Other, Begins, Takes, Prepares, Checks, Decides, Aborts, Rolls, Removes, Ends, Stops, ProtocolState, History, IsWriter, happens, state_after_event}
-use Rattle.law_protocol.specs.Lawful.{Labelled, IsEnabled, IsLawful, id, protocol_state, ended}
+use Rattle.law_protocol.specs.Lawful.{Labelled, IsLawful, id, protocol_state, ended}
 use Rattle.law_protocol.specs.Trace.{closing, history}
 use Rattle.law_protocol.specs.Records.{record_prepared_by, write_there}
 use Rattle.law_protocol.specs.Explained.{IsRunOf, IsLastWriter, ImageOf, IsAsFound, newest_first, events_of}
@@ -173,7 +173,7 @@ unchanged_at plan places opening labelled moments catalog r none front back clie
 
 ---- who wrote a key
 
-deleted_in : (plan : ℕ → Plan) (u : ℕ) (k : Key) → written (plan u) k ≢ None → deletes (plan u) k ≡ true → is_in state.Deleted (record_prepared_by plan u k).columns ≡ true
+pub deleted_in : (plan : ℕ → Plan) (u : ℕ) (k : Key) → written (plan u) k ≢ None → deletes (plan u) k ≡ true → is_in state.Deleted (record_prepared_by plan u k).columns ≡ true
 unfolding record_prepared_by deletes
 deleted_in plan u k some h = version_state (id u) state.Deleted (prepared_record (write_there (plan u) k) (id u) (plan u).now) (by (write_there (plan u) k).change refl d)
   where
@@ -188,23 +188,23 @@ deleted_in plan u k some h = version_state (id u) state.Deleted (prepared_record
 decided_now : (plan : ℕ → Plan) (w : History) (r : Action) (done : Bool) (u : ℕ) → (happens plan w r done).row u ≡ Some Committed → w.row u ≡ None → (happens plan w r done).decided_at u ≡ w.protocol.now + 1
 decided_now plan w r done u h n = grind (arith, tests)
 
-ticks : (plan : ℕ → Plan) (past : List Labelled) (e : Event) (r : Action) → IsEnabled plan past e r → (state_after_event (protocol_state past) r).now ≡ (protocol_state past).now + 1
-ticks plan past e Other m = refl
-ticks plan past e (Begins t c) m = refl
-ticks plan past e (Takes t) m = refl
-ticks plan past e (Prepares t k word) m = refl
-ticks plan past e (Checks t i) m = refl
-ticks plan past e (Decides t word) m = refl
-ticks plan past e (Aborts t moment word) m = refl
-ticks plan past e (Rolls t k d) m = refl
-ticks plan past e (Removes k t) m = refl
-ticks plan past e (Ends t) m = absurd m
-ticks plan past e (Stops c) m = refl
+ticks : (h : ProtocolState) (r : Action) → (state_after_event h r).now ≡ h.now + 1
+ticks h Other = refl
+ticks h (Begins t c) = refl
+ticks h (Takes t) = refl
+ticks h (Prepares t ks word) = refl
+ticks h (Checks t i) = refl
+ticks h (Decides t word) = refl
+ticks h (Aborts t moment word) = refl
+ticks h (Rolls t ks d) = refl
+ticks h (Removes k t) = refl
+ticks h (Ends t) = refl
+ticks h (Stops c) = refl
 
 -- the law's clock counts the events
 pub now_is : (plan : ℕ → Plan) (past : List Labelled) → IsLawful plan past → (protocol_state past).now ≡ length past
 now_is plan [] l = refl
-now_is plan (p ∷ past) l = over p.ends (next (ticks plan past p.event p.action l.1) (now_is plan past l.0))
+now_is plan (p ∷ past) l = over p.ends (next (ticks (protocol_state past) p.action) (now_is plan past l.0))
   where
     next : {a b n : ℕ} → a ≡ b + 1 → b ≡ n → a ≡ suc n
     next e f = omega (arith, e, f)
@@ -255,7 +255,7 @@ module _ (plan : ℕ → Plan) (places : List Place) (opening : List StoreConten
   ends = ap (moment opening moments) (lengths places opening plan labelled moments r) ∙ ap (λ y. moment opening y (length moments)) (sym (append-nil moments)) ∙ moment_at opening moments []
 
   -- the last events after the first of a number
-  was_decided : (u n : ℕ) → n ≤ length moments → w.row u ≡ Some Committed → w.decided_at u ≤ n → u < 2 ^ 128 → Recorded places (moment opening moments n) (id u)
+  pub was_decided : (u n : ℕ) → n ≤ length moments → w.row u ≡ Some Committed → w.decided_at u ≤ n → u < 2 ^ 128 → Recorded places (moment opening moments n) (id u)
   was_decided u n most row low fits = subst (λ s. Recorded places s (id u)) (sym (at_cut opening moments n c.size)) (row_recorded plan places (history plan places opening (newest_first (take n labelled)) (newest_first (take n moments))) (newest_first (take n labelled)) (closing opening (newest_first (take n moments))) u first fits (by ((history plan places opening (newest_first (take n labelled)) (newest_first (take n moments))).row u) refl))
     where
       c : IsCut plan places opening labelled moments n
@@ -429,7 +429,7 @@ module _ (plan : ℕ → Plan) (places : List Place) (opening : List StoreConten
                 under : (n b m l : ℕ) → b ≡ n → b ≤ m → m ≡ l → n ≤ l
                 under n b m l e f g = omega (arith, e, f, g)
 
-noted_at : (plan : Plan) (i : ℕ) (key : Key) (item : ReadItem) (version : Option TxId) → slice_get plan.read_set i ≡ Some item → version_read item key ≡ Some version → version_read_at plan i key ≡ Some (number_of version)
+pub noted_at : (plan : Plan) (i : ℕ) (key : Key) (item : ReadItem) (version : Option TxId) → slice_get plan.read_set i ≡ Some item → version_read item key ≡ Some version → version_read_at plan i key ≡ Some (number_of version)
 unfolding version_read_at
 noted_at plan i key item version at says = ap (λ o. option_map number_of (option_and_then (λ n. version_read n key) o)) at ∙ ap (option_map number_of) says
 

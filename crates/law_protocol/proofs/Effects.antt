@@ -10,7 +10,7 @@ use Rattle.sdb_types.specs.Contents.{Contents, record_at, record_of, holds, repl
 use Rattle.sdb_types.proofs.Public.{key_total, same_key_decides}
 use Rattle.sdb_types.specs.Order.{same_key}
 use Rattle.sdb_record.proofs.Public.{same_name-itself, same_name-true}
-use Rattle.sdb_model.specs.declared.event.How.TheVariants.{Seen, Lost, Discarded, Broken}
+use Rattle.sdb_model.specs.declared.event.How.TheVariants.{Seen, Lost, Discarded, Delayed, Broken}
 use Rattle.sdb_model.specs.Rows.{Name, same_name}
 use Rattle.sdb_model.specs.Events.{StoreContents, contents_under, with_contents, store_of, first_name, stored_at, table_asked, IsPerformed, IsCall}
 
@@ -91,6 +91,7 @@ moved q Seen r held left p = elim p [
 ]
 moved q Lost r held left p = inl (p.1, inr p.0)
 moved q Discarded r held left p = inr (p.1, inr p.0)
+moved q Delayed r held left p = inr (p.1, inr p.0)
 moved q Broken r held left p = elim p.1 [
   | inl e ↦ inr (e, inr p.0)
   | inr e ↦ inl (e, inr p.0)

@@ -1,16 +1,16 @@
 -- Events that follow a script's moves still do when their calls are moved to other stores.
-use Rattle.std.proofs.Common.{◌≡◌, ℕ, ◌+◌, Bool, true, false, List, [], ◌∷◌, ◌++◌, ap, subst, ◌∙◌, inl, inr}
+use Rattle.std.proofs.Common.{◌≡◌, ℕ, ◌+◌, Bool, true, false, List, [], ◌∷◌, ◌++◌, Option, Some, None, ap, sym, subst, ◌∙◌, inl, inr}
 use Rattle.std.specs.Prelude.{MatchBool}
 use Rattle.std.specs.List.{slice_get}
 use Rattle.std.proofs.lemmas.List.{length-map}
-use Rattle.law_protocol.specs.Types.{Act, Event, How, Move, Reply, Script, ScriptClient}
+use Rattle.law_protocol.specs.Types.{Act, Event, How, Move, Reply, Request, Script, ScriptClient}
 use Rattle.sdb_model.specs.declared.event.Event.TheVariants as event
 use Rattle.sdb_model.specs.declared.script.Act.TheVariants as act
 use Rattle.sdb_model.specs.declared.script.Move.TheVariants as move
 use Rattle.sdb_model.specs.Rows.{Name}
-use Rattle.sdb_model.specs.Follows.{has_work, is_pending, texts_of, IsCallOf, IsTakeOf, IsStep, IsHowOfStep, IsHowOfLose, IsHowOfDiscard, IsActed, AreStepsOf, AllIdle, IsTurn, IsRest, IsOfMove, AreOfMoves, Follows, end_of}
+use Rattle.sdb_model.specs.Follows.{has_work, is_pending, texts_of, IsCallOf, IsTakeOf, IsStep, IsHowOfStep, IsHowOfLose, IsHowOfDiscard, IsHowOfDelay, IsLanding, in_flight, IsActed, AreStepsOf, AllIdle, IsTurn, IsRest, IsOfMove, AreOfMoves, Follows, end_of}
 use Rattle.law_protocol.specs.Spread.{relocated_event, relocated_events}
-use Rattle.law_protocol.proofs.Moved.{moved_more, work_moved, pending_moved, taken_moved}
+use Rattle.law_protocol.proofs.Moved.{moved_more, work_moved, pending_moved, taken_moved, flight_moved}
 
 matched : {P Q P' Q' : Type 0} (b b' : Bool) → b' ≡ b → (P → P') → (Q → Q') → MatchBool b P Q → MatchBool b' P' Q'
 matched true true e f g h = f h
@@ -24,6 +24,7 @@ call_moved at client allowed (event.Take c text given) h = h
 call_moved at client allowed (event.Stop c) h = h
 call_moved at client allowed (event.Clock m) h = h
 call_moved at client allowed (event.Idle c) h = h
+call_moved at client allowed (event.Land k store q how r) h = h
 
 take_moved : (at : Name → Name) (clients : List ScriptClient) (client : ℕ) (past : List Event) (e : Event) → IsTakeOf clients client past e → IsTakeOf clients client (relocated_events at past) (relocated_event at e)
 take_moved at clients client past (event.Take c text given) h = (h.0, ap (λ (n : ℕ). slice_get (texts_of clients client) n) (taken_moved at client past) ∙ h.1)
@@ -31,6 +32,7 @@ take_moved at clients client past (event.Call c store q how r given) h = h
 take_moved at clients client past (event.Stop c) h = h
 take_moved at clients client past (event.Clock m) h = h
 take_moved at clients client past (event.Idle c) h = h
+take_moved at clients client past (event.Land k store q how r) h = h
 
 step_moved : (at : Name → Name) (clients : List ScriptClient) (client : ℕ) (allowed : How → Reply → Type 0) (past : List Event) (e : Event) → IsStep clients client allowed past e → IsStep clients client allowed (relocated_events at past) (relocated_event at e)
 step_moved at clients client allowed past e h =
@@ -38,10 +40,21 @@ step_moved at clients client allowed past e h =
     (matched (is_pending client past) (is_pending client (relocated_events at past)) (pending_moved at client past) (call_moved at client allowed e) (take_moved at clients client past e))
     (λ idle. ap (relocated_event at) idle) h
 
+landing_moved : (at : Name → Name) (k : ℕ) (o : Option Request) (e : Event) → IsLanding k o e → IsLanding k o (relocated_event at e)
+landing_moved at k None e h = ap (relocated_event at) h
+landing_moved at k (Some q) (event.Land n store request how r) h = h
+landing_moved at k (Some q) (event.Take c text given) h = h
+landing_moved at k (Some q) (event.Call c store request how r given) h = h
+landing_moved at k (Some q) (event.Stop c) h = h
+landing_moved at k (Some q) (event.Clock m) h = h
+landing_moved at k (Some q) (event.Idle c) h = h
+
 acted_moved : (at : Name → Name) (clients : List ScriptClient) (a : Act) (past : List Event) (e : Event) → IsActed clients a past e → IsActed clients a (relocated_events at past) (relocated_event at e)
 acted_moved at clients (act.Step client) past e h = step_moved at clients client IsHowOfStep past e h
 acted_moved at clients (act.Lose client) past e h = step_moved at clients client IsHowOfLose past e h
 acted_moved at clients (act.Discard client) past e h = step_moved at clients client IsHowOfDiscard past e h
+acted_moved at clients (act.Delay client) past e h = step_moved at clients client IsHowOfDelay past e h
+acted_moved at clients (act.Land k) past e h = subst (λ o. IsLanding k o (relocated_event at e)) (sym (flight_moved at k past)) (landing_moved at k (in_flight k past) e h)
 acted_moved at clients (act.Stop client) past e h = ap (relocated_event at) h
 acted_moved at clients (act.Clock moment) past e h = ap (relocated_event at) h
 

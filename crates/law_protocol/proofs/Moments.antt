@@ -4,33 +4,36 @@ use Rattle.std.specs.Prelude.{IsSomeAnd, fold, ◌==◌, ◌||◌, ◌&&◌, not
 use Rattle.std.specs.Option.{option_map}
 use Rattle.std.proofs.lemmas.List.{take-append-drop, length-take-le, length-drop, length-append, length-map, map-append}
 use Rattle.std.proofs.lemmas.List.Sums.{fold-append}
-use Rattle.law_protocol.specs.Types.{Decided, Decision, Event, Key, Place, Record, Table, TableName, TxId}
+use Rattle.law_protocol.specs.Types.{Decided, Decision, Event, Key, Place, Record, Reply, Table, TableName, TxId}
 use Rattle.sdb_types.specs.declared.record.Condition.TheVariants as condition
-use Rattle.sdb_types.specs.declared.record.Request.TheVariants as ask
 use Rattle.sdb_types.specs.declared.record.State.TheVariants as state
 use Rattle.sdb_record.specs.declared.coordinator.Decision.TheVariants.{Aborted}
 use Rattle.sdb_record.specs.Names.{same_name}
 use Rattle.sdb_record.specs.Coordinator.{coordinator_key_of, coordinator_row_of, coordinator_table, is_coordinator_table}
 use Rattle.sdb_record.proofs.Public.{same_name-true, version-writer}
 use Rattle.sdb_record.specs.Meta.{id_in, is_in}
-use Rattle.sdb_record.specs.Moved.{version_of, condition_of}
+use Rattle.sdb_record.specs.Moved.{condition_of}
 use Rattle.sdb_record.specs.Parts.{before_record}
-use Rattle.sdb_record.specs.Rolls.{prepared_record}
 use Rattle.sdb_model.specs.Exec.{find_table}
-use Rattle.sdb_model.specs.Events.{StoreContents, contact_of, stored_at, moment}
+use Rattle.sdb_model.specs.Events.{StoreContents, stored_at, moment}
 use Rattle.sdb_model.specs.Transactions.{is_prepared_record}
 use Rattle.sdb_model.specs.Explained.{IsTableKey, CommittedRecorded, AbortedRemoved, IsAborted, RowsFinal, UnresolvedPrepared, PreparedPersists, IsPrepareOf, IsPreparedAfter}
 use Rattle.sdb_model.proofs.Public.{in_only}
-use Rattle.law_protocol.specs.Plan.{Plan}
-use Rattle.law_protocol.specs.History.{Action, Other, Begins, Takes, Prepares, Checks, Decides, Aborts, Rolls, Removes, Ends, Stops, Ack, History, Held, has_key, happens}
+use Rattle.law_protocol.specs.Plan.{Plan, written}
+use Rattle.law_protocol.specs.History.{Action, Other, Begins, Takes, Prepares, Checks, Decides, Aborts, Rolls, Removes, Ends, Stops, Ack, History, Held, base_of, has_key, happens}
 use Rattle.law_protocol.proofs.OneKey.{the_one}
-use Rattle.law_protocol.specs.Lawful.{Labelled, IsEnabled, MayPrepare, id}
+use Rattle.law_protocol.specs.Lawful.{Labelled, MayOccur, MayPrepare, id}
 use Rattle.law_protocol.specs.Trace.{closing, history, has_effect, after_end, IsTraced}
 use Rattle.law_protocol.specs.Records.{record_prepared_by, record_for, row_for}
+use Rattle.law_protocol.specs.Flight.{prepare_of}
 use Rattle.law_protocol.specs.Explained.{IsRunOf, IsPreparedRecord, newest_first, events_of}
 use Rattle.law_protocol.proofs.Canon.{same_writer}
 use Rattle.law_protocol.proofs.Known.{held_key, accepted_fits, took_is_accepted, took_stays}
-use Rattle.law_protocol.proofs.Moves.{held_is}
+use Rattle.law_protocol.proofs.Moves.{live, prepare_is}
+use Rattle.law_protocol.proofs.Settled.{Knows}
+use Rattle.law_protocol.proofs.Changes.{Asks, called}
+use Rattle.law_protocol.proofs.Occurring.{occurs_by}
+use Rattle.law_protocol.proofs.Landing.{landed_asks}
 use Rattle.law_protocol.proofs.Whole.{Whole}
 use Rattle.law_protocol.proofs.Derived.{decision_is, committed_is_canon, aborted_gone, unresolved_prepared, prepared_stay, took_data}
 use Rattle.law_protocol.proofs.Times.{whole_of, front_run, lasts, stood_before, rows_final}
@@ -216,20 +219,36 @@ record IsPut (plan : ℕ → Plan) (places : List Place) (t : ℕ) (k : Key) (e 
   before : stored_at places old (record_prepared_by plan t k).key ≡ before_record (record_prepared_by plan t k)
   after : stored_at places new (record_prepared_by plan t k).key ≡ Some (record_prepared_by plan t k)
 
+-- an event that prepares a key asks for that
+pub prepare_asked : (plan : ℕ → Plan) (w : History) (past : List Labelled) (e : Event) (t : ℕ) (ks : List Key) (k : Key) (word : Ack) → Knows plan w past → MayOccur plan past e (Prepares t ks word) → has_key ks k ≡ true → t < 2 ^ 128 → IsPrepareOf (id t) (record_prepared_by plan t k) e
+prepare_asked plan w past e t ks k word knows o among fits = elim (occurs_by plan past e (Prepares t ks word) o) [
+  | inl m ↦ made (the_one (λ q. MayPrepare plan past e t q word) ks k m among)
+  | inr l ↦ asked l.reply (subst (λ x. Asks e x l.reply) (the_one (λ q. l.request ≡ prepare_of plan t q) ks k (knows.delayed l.request (Prepares t ks word) l.was).0 among) (landed_asks l))
+]
+  where
+    itself : (n : ℕ) → (n == n) ≡ true
+    itself n = grind (arith, tests)
+
+    asked : (r : Reply) → Asks e (prepare_of plan t k) r → IsPrepareOf (id t) (record_prepared_by plan t k) e
+    asked r a = record {
+      contact = record { store = a.store; request = prepare_of plan t k; how = a.how; reply = r };
+      asks = a.is;
+      puts = in_only (record_prepared_by plan t k) (record_prepared_by plan t k) refl;
+      prepare = held_prepares plan t t k (condition_of (option_map id (base_of (written (plan t) k)))) fits fits ∙ itself t;
+    }
+
+    made : MayPrepare plan past e t k word → IsPrepareOf (id t) (record_prepared_by plan t k) e
+    made m = asked m.r (subst (λ x. Asks e x m.r) (prepare_is plan w past t k m.write knows (live w past m.client t knows.talks m.within).0 m.at) (called e m.client _ m.r m.call))
+
 put_is : (plan : ℕ → Plan) (places : List Place) (opening : List StoreContents) (early : List Labelled) (p : Labelled) (es : List (List StoreContents)) (s : List StoreContents) (t : ℕ) (ks : List Key) (k : Key) (word : Ack) → IsRunOf plan places opening (p ∷ early) (s ∷ es) → p.action ≡ Prepares t ks word → has_key ks k ≡ true → has_effect places p.event (closing opening es) s ≡ true → IsPut plan places t k p.event (closing opening es) s
 put_is plan places opening early p es s t ks k word r action among done = record {
-  put = record {
-    contact = record { store = m.call.store; request = ask.PutIf (prepared_record m.write (id t) (plan t).now) (condition_of (version_of m.write.base)); how = m.call.how; reply = m.r };
-    asks = ap contact_of m.call.call;
-    puts = in_only (prepared_record m.write (id t) (plan t).now) (record_prepared_by plan t k) (held_is plan t k m.write m.at);
-    prepare = held_prepares plan t t k (condition_of (version_of m.write.base)) fits fits ∙ itself t;
-  };
+  put = prepare_asked plan (history plan places opening early es) early p.event t ks k word earlier.knows (subst (λ x. MayOccur plan early p.event x) action r.lawful.1) among fits;
   before = ap (stored_at places (closing opening es)) key ∙ stood_before plan places opening early p es s t ks k word r action among done;
   after = ap (stored_at places s) key ∙ i.held.records k (took_data plan w (p ∷ early) t k i.knows put.1) ∙ ap (option_map (record_for plan k)) put.0;
 }
   where
-    m : MayPrepare plan early p.event t k word
-    m = the_one (λ q. MayPrepare plan early p.event t q word) ks k (subst (λ x. IsEnabled plan early p.event x) action r.lawful.1) among
+    earlier : Whole plan places (history plan places opening early es) early (closing opening es)
+    earlier = whole_of plan places opening early es (record { empty = r.empty; lawful = r.lawful.0; traced = r.traced.0 })
 
     w : History
     w = history plan places opening (p ∷ early) (s ∷ es)
@@ -247,9 +266,6 @@ put_is plan places opening early p es s t ks k word r action among done = record
 
     key : (record_prepared_by plan t k).key ≡ k
     key = held_key plan t k (i.knows.inv.asked t k ((i.knows.inv.took_effect t k).0 put.1).0)
-
-    itself : (n : ℕ) → (n == n) ≡ true
-    itself n = grind (arith, tests)
 
 ---- at every moment
 
@@ -438,7 +454,16 @@ cut plan places opening labelled moments n r h = record {
 pub at_cut : (opening : List StoreContents) (moments : List (List StoreContents)) (n : ℕ) → length (take n moments) ≡ n → moment opening moments n ≡ closing opening (newest_first (take n moments))
 at_cut opening moments n e = ap (λ y. moment opening y n) (half n moments) ∙ ap (moment opening (take n moments ++ drop n moments)) (sym e) ∙ moment_at opening (take n moments) (drop n moments)
 
-early_whole : (plan : ℕ → Plan) (places : List Place) (opening : List StoreContents) (labelled : List Labelled) (moments : List (List StoreContents)) (n : ℕ) → IsCut plan places opening labelled moments n → Whole plan places (history plan places opening (newest_first (take n labelled)) (newest_first (take n moments))) (newest_first (take n labelled)) (closing opening (newest_first (take n moments)))
+-- a moment of the first ones is the same with more
+pub front_moment : (opening : List StoreContents) (xs ys : List (List StoreContents)) (n : ℕ) → n ≤ length xs → moment opening (xs ++ ys) n ≡ moment opening xs n
+front_moment opening xs ys n e =
+    ap (λ y. moment opening (y ++ ys) n) (half n xs)
+    ∙ ap (λ y. moment opening y n) (append_assoc (take n xs) (drop n xs) ys)
+    ∙ ap (moment opening (take n xs ++ (drop n xs ++ ys))) (sym (length-take-le n xs e))
+    ∙ moment_at opening (take n xs) (drop n xs ++ ys)
+    ∙ sym (at_cut opening xs n (length-take-le n xs e))
+
+pub early_whole : (plan : ℕ → Plan) (places : List Place) (opening : List StoreContents) (labelled : List Labelled) (moments : List (List StoreContents)) (n : ℕ) → IsCut plan places opening labelled moments n → Whole plan places (history plan places opening (newest_first (take n labelled)) (newest_first (take n moments))) (newest_first (take n labelled)) (closing opening (newest_first (take n moments)))
 early_whole plan places opening labelled moments n c = whole_of plan places opening (newest_first (take n labelled)) (newest_first (take n moments)) (early_run plan places opening (take n labelled) (drop n labelled) (take n moments) (drop n moments) c.same c.whole)
 
 -- a prepare among the events that put its record took effect
@@ -504,15 +529,7 @@ rows_at {plan} {places} {opening} labelled moments early late r below h id row f
     d = cut plan places opening (take late labelled) (take late moments) early run (omega (arith, below, c.size))
 
     first : moment opening moments early ≡ closing opening (newest_first (take early (take late moments)))
-    first = ap (λ y. moment opening y early) (half late moments) ∙ shorter (take late moments) (drop late moments) (omega (arith, below, c.size)) ∙ at_cut opening (take late moments) early d.size
-      where
-        shorter : (xs ys : List (List StoreContents)) → early ≤ length xs → moment opening (xs ++ ys) early ≡ moment opening xs early
-        shorter xs ys e =
-            ap (λ y. moment opening (y ++ ys) early) (half early xs)
-            ∙ ap (λ y. moment opening y early) (append_assoc (take early xs) (drop early xs) ys)
-            ∙ ap (moment opening (take early xs ++ (drop early xs ++ ys))) (sym (length-take-le early xs e))
-            ∙ moment_at opening (take early xs) (drop early xs ++ ys)
-            ∙ sym (at_cut opening xs early (length-take-le early xs e))
+    first = ap (λ y. moment opening y early) (half late moments) ∙ front_moment opening (take late moments) (drop late moments) early (omega (arith, below, c.size)) ∙ at_cut opening (take late moments) early d.size
 
     turn : newest_first (take late moments) ≡ newest_first (drop early (take late moments)) ++ newest_first (take early (take late moments))
     turn = ap newest_first (half early (take late moments)) ∙ turned_append (take early (take late moments)) (drop early (take late moments))

@@ -1,15 +1,15 @@
 -- What doesn't ask for the stores of calls is the same when they are moved.
-use Rattle.std.proofs.Common.{◌≡◌, ℕ, ◌+◌, Bool, false, cond, List, [], ◌∷◌, ◌++◌, Option, Some, None, refl, ap, ◌∙◌}
+use Rattle.std.proofs.Common.{◌≡◌, ℕ, zero, suc, ◌+◌, Bool, false, cond, List, [], ◌∷◌, ◌++◌, Option, Some, None, refl, ap, ◌∙◌}
 use Rattle.std.specs.Prelude.{map, fold, find, filter, take_while, not, nat_lt, ◌&&◌, ◌||◌, unwrap_or, length}
-use Rattle.std.specs.List.{count_by, list_any, enumerate_from}
+use Rattle.std.specs.List.{count_by, list_any, enumerate_from, filter_map, cons_option, slice_get}
 use Rattle.std.specs.Option.{option_map, option_map_or, option_and_then}
-use Rattle.law_protocol.specs.Types.{Event, ScriptClient, TxId}
+use Rattle.law_protocol.specs.Types.{Event, Request, ScriptClient, TxId}
 use Rattle.sdb_types.specs.declared.record.Reply.TheVariants as reply
 use Rattle.sdb_model.specs.declared.event.Event.TheVariants as event
-use Rattle.sdb_model.specs.declared.event.How.TheVariants.{Seen, Lost, Discarded, Broken}
+use Rattle.sdb_model.specs.declared.event.How.TheVariants.{Seen, Lost, Discarded, Delayed, Broken}
 use Rattle.sdb_model.specs.Sql.{reads_commit}
 use Rattle.sdb_model.specs.Rows.{Name}
-use Rattle.sdb_model.specs.Follows.{is_take_of, stops, pends_after, takes_of, has_stopped, is_pending, has_work, texts_of}
+use Rattle.sdb_model.specs.Follows.{is_take_of, stops, pends_after, takes_of, has_stopped, is_pending, has_work, texts_of, lands, delayed_by, delayed_at, in_flight}
 use Rattle.sdb_model.specs.Transactions.{Executed, statements_by, statements_after, from_begin, begun, commit_of, ends, body, is_effective, first_of, rest_of, ordinal_of, client_of, is_prepared_by, last_prepare, point}
 use Rattle.law_protocol.specs.Spread.{relocated_event, relocated_events}
 
@@ -42,6 +42,7 @@ takes_moved at c (event.Call i s q h r given) = refl
 takes_moved at c (event.Stop i) = refl
 takes_moved at c (event.Clock m) = refl
 takes_moved at c (event.Idle i) = refl
+takes_moved at c (event.Land k s q h r) = refl
 
 stops_moved : (at : Name → Name) (c : ℕ) (e : Event) → stops c (relocated_event at e) ≡ stops c e
 stops_moved at c (event.Take i text given) = refl
@@ -49,6 +50,7 @@ stops_moved at c (event.Call i s q h r given) = refl
 stops_moved at c (event.Stop i) = refl
 stops_moved at c (event.Clock m) = refl
 stops_moved at c (event.Idle i) = refl
+stops_moved at c (event.Land k s q h r) = refl
 
 pends_moved : (at : Name → Name) (c : ℕ) (was : Bool) (e : Event) → pends_after c was (relocated_event at e) ≡ pends_after c was e
 pends_moved at c was (event.Take i text given) = refl
@@ -56,6 +58,7 @@ pends_moved at c was (event.Call i s q h r given) = refl
 pends_moved at c was (event.Stop i) = refl
 pends_moved at c was (event.Clock m) = refl
 pends_moved at c was (event.Idle i) = refl
+pends_moved at c was (event.Land k s q h r) = refl
 
 pub taken_moved : (at : Name → Name) (c : ℕ) (past : List Event) → takes_of c (relocated_events at past) ≡ takes_of c past
 taken_moved at c past = count_moved (is_take_of c) (relocated_event at) (takes_moved at c) past
@@ -63,11 +66,52 @@ taken_moved at c past = count_moved (is_take_of c) (relocated_event at) (takes_m
 pub pending_moved : (at : Name → Name) (c : ℕ) (past : List Event) → is_pending c (relocated_events at past) ≡ is_pending c past
 pending_moved at c past = fold_moved (pends_after c) (relocated_event at) (pends_moved at c) false past
 
+pub stopped_moved : (at : Name → Name) (c : ℕ) (past : List Event) → has_stopped c (relocated_events at past) ≡ has_stopped c past
+stopped_moved at c past = any_moved (stops c) (relocated_event at) (stops_moved at c) past
+
 pub work_moved : (at : Name → Name) (clients : List ScriptClient) (c : ℕ) (past : List Event) → has_work clients c (relocated_events at past) ≡ has_work clients c past
 work_moved at clients c past =
     ap (λ (b : Bool). not b && (is_pending c (relocated_events at past) || nat_lt (takes_of c (relocated_events at past)) (length (texts_of clients c)))) (any_moved (stops c) (relocated_event at) (stops_moved at c) past)
     ∙ ap (λ (b : Bool). not (has_stopped c past) && (b || nat_lt (takes_of c (relocated_events at past)) (length (texts_of clients c)))) (pending_moved at c past)
     ∙ ap (λ (n : ℕ). not (has_stopped c past) && (is_pending c past || nat_lt n (length (texts_of clients c)))) (taken_moved at c past)
+
+---- what is in flight
+
+lands_moved : (at : Name → Name) (k : ℕ) (e : Event) → lands k (relocated_event at e) ≡ lands k e
+lands_moved at k (event.Take i text given) = refl
+lands_moved at k (event.Call i s q h r given) = refl
+lands_moved at k (event.Stop i) = refl
+lands_moved at k (event.Clock m) = refl
+lands_moved at k (event.Idle i) = refl
+lands_moved at k (event.Land n s q h r) = refl
+
+delayed_moved : (at : Name → Name) (e : Event) → delayed_by (relocated_event at e) ≡ delayed_by e
+delayed_moved at (event.Take i text given) = refl
+delayed_moved at (event.Call i s q Seen r given) = refl
+delayed_moved at (event.Call i s q Lost r given) = refl
+delayed_moved at (event.Call i s q Discarded r given) = refl
+delayed_moved at (event.Call i s q Delayed r given) = refl
+delayed_moved at (event.Call i s q Broken r given) = refl
+delayed_moved at (event.Stop i) = refl
+delayed_moved at (event.Clock m) = refl
+delayed_moved at (event.Idle i) = refl
+delayed_moved at (event.Land n s q h r) = refl
+
+requests_moved : (at : Name → Name) (es : List Event) → filter_map delayed_by (relocated_events at es) ≡ filter_map delayed_by es
+requests_moved at [] = refl
+requests_moved at (e ∷ es) =
+    ap (λ (o : Option Request). cons_option o (filter_map delayed_by (relocated_events at es))) (delayed_moved at e)
+    ∙ ap (cons_option (delayed_by e)) (requests_moved at es)
+
+pub asked_moved : (at : Name → Name) (k : ℕ) (past : List Event) → delayed_at k (relocated_events at past) ≡ delayed_at k past
+asked_moved at zero past = refl
+asked_moved at (suc k) past = ap (λ (qs : List Request). slice_get qs k) (requests_moved at past)
+
+-- a request in flight doesn't name its store
+pub flight_moved : (at : Name → Name) (k : ℕ) (past : List Event) → in_flight k (relocated_events at past) ≡ in_flight k past
+flight_moved at k past =
+    ap (λ (b : Bool). cond b None (delayed_at k (relocated_events at past))) (any_moved (lands k) (relocated_event at) (lands_moved at k) past)
+    ∙ ap (λ (o : Option Request). cond (list_any (lands k) past) None o) (asked_moved at k past)
 
 ---- what clients said
 
@@ -78,6 +122,7 @@ says_moved at c ss n (event.Call i s q h r (Some a)) = refl
 says_moved at c ss n (event.Stop i) = refl
 says_moved at c ss n (event.Clock m) = refl
 says_moved at c ss n (event.Idle i) = refl
+says_moved at c ss n (event.Land k s q h r) = refl
 
 pub executed_moved : (at : Name → Name) (c : ℕ) (events : List Event) → statements_by c (relocated_events at events) ≡ statements_by c events
 executed_moved at c events = numbers_moved (statements_after c) (relocated_event at) (says_moved at c) [] 1 events
@@ -108,10 +153,12 @@ prepared_moved at id (event.Call i s q Seen reply.Fault given) = refl
 prepared_moved at id (event.Call i s q Seen reply.NoMemory given) = refl
 prepared_moved at id (event.Call i s q Lost r given) = refl
 prepared_moved at id (event.Call i s q Discarded r given) = refl
+prepared_moved at id (event.Call i s q Delayed r given) = refl
 prepared_moved at id (event.Call i s q Broken r given) = refl
 prepared_moved at id (event.Stop i) = refl
 prepared_moved at id (event.Clock m) = refl
 prepared_moved at id (event.Idle i) = refl
+prepared_moved at id (event.Land k s q h r) = refl
 
 last_moved : (at : Name → Name) (events : List Event) (id : TxId) → last_prepare (relocated_events at events) id ≡ last_prepare events id
 last_moved at events id =

@@ -2,7 +2,7 @@
 use Rattle.std.proofs.Common.{◌≡◌, ◌≢◌, ℕ, ℤ, ◌<◌, ◌^◌, Bool, true, false, List, [], ◌∷◌, Option, Some, None, ◌⊎◌, inl, inr, refl, sym, ap, subst, ◌∙◌, arith}
 use Rattle.std.specs.Prelude.{◌&&◌, ◌==◌, if◌then◌else◌}
 use Rattle.std.specs.Option.{option_map}
-use Rattle.law_protocol.specs.Types.{Condition, Decision, Event, Key, Place, Record, Reply, State, TxId, Write}
+use Rattle.law_protocol.specs.Types.{Decision, Event, Key, Place, Record, Reply, Request, State, TxId, Write}
 use Rattle.sdb_types.specs.declared.record.State.TheVariants as state
 use Rattle.sdb_types.specs.declared.record.Condition.TheVariants as condition
 use Rattle.sdb_types.specs.declared.record.Request.TheVariants as ask
@@ -16,19 +16,21 @@ use Rattle.sdb_record.specs.Rolls.{prepared_record}
 use Rattle.sdb_record.proofs.Public.{row-key, version-writer}
 use Rattle.sdb_model.specs.Events.{StoreContents, Effect, stored_at}
 use Rattle.law_protocol.specs.Plan.{Plan, write_at, written}
-use Rattle.law_protocol.specs.History.{Action, Prepares, Decides, Aborts, Ack, is_yes, is_met, is_out_of_memory_ack, ProtocolState, History, Standing, Final, Held, base_of, has_version, happens, with_row, IsLive, IsWriter, IsPrepared}
-use Rattle.law_protocol.specs.Lawful.{Labelled, protocol_state, id, ack_of, InCommit, IsCallOf, MayPrepare, MayDecide, MayAbort}
-use Rattle.law_protocol.specs.Records.{record_prepared_by, record_left_by, record_for, row_for, ContainsHistory}
+use Rattle.law_protocol.specs.History.{Action, Prepares, Decides, Aborts, Ack, NoAck, is_yes, is_met, is_out_of_memory_ack, Preparing, ProtocolState, History, Standing, Final, Held, base_of, has_key, has_version, happens, with_row, IsLive, IsWriter, IsPrepared}
+use Rattle.law_protocol.specs.Lawful.{Labelled, protocol_state, id, ack_of, InCommit, MayPrepare, MayDecide, MayAbort}
+use Rattle.law_protocol.specs.Records.{write_there, record_prepared_by, record_left_by, record_for, row_for, ContainsHistory}
+use Rattle.law_protocol.specs.Flight.{HasForm, StaysAllowed, prepare_of}
 use Rattle.law_protocol.specs.Trace.{has_effect}
 use Rattle.law_protocol.proofs.Allowed.{Allowed}
 use Rattle.law_protocol.proofs.OneKey.{one_of}
 use Rattle.law_protocol.proofs.Canon.{held_writer, held_open, firm_writer, firm_committed, same_writer, not_open_version, not_firm_version}
 use Rattle.law_protocol.proofs.Changes.{Asks, HasChanged, called, put_call}
-use Rattle.law_protocol.proofs.Known.{written_some, write_is, held_key, accepted_fits, writer_accepted, took_is_accepted}
+use Rattle.law_protocol.proofs.Known.{written_some, write_is, writes_it, held_key, accepted_fits, writer_accepted, took_is_accepted}
 use Rattle.law_protocol.proofs.Settled.{Knows}
 use Rattle.law_protocol.proofs.Links.{link_write, link_row}
-use Rattle.sdb_types.proofs.Public.{clash, tests}
+use Rattle.sdb_types.proofs.Public.{clash, same_key_self, tests}
 use Rattle.sdb_types.specs.Order.{same_key}
+use Rattle.sdb_model.specs.Tables.{is_data}
 
 pub record Moves (plan : ℕ → Plan) (places : List Place) (w : History) (r : Action) (done : Bool) (now : List StoreContents) : Type 0 where
   pub allowed : Allowed plan w r done
@@ -91,7 +93,7 @@ pub fresh_held : (v : Option TxId) (r : Record) → is_in state.Committed r.colu
 fresh_held None r h = refl
 fresh_held (Some i) r h = not_firm_version i r h
 
-yes_is : (word : Ack) (r : Reply) → word ≡ ack_of r → is_yes word ≡ true → r ≡ reply.Applied
+pub yes_is : (word : Ack) (r : Reply) → word ≡ ack_of r → is_yes word ≡ true → r ≡ reply.Applied
 yes_is word r e h = by r (ap is_yes (sym e) ∙ h)
   where
     by : (r : Reply) → is_yes (ack_of r) ≡ true → r ≡ reply.Applied
@@ -120,33 +122,69 @@ base_version : (plan : ℕ → Plan) (k : Key) (v : Option ℕ) → ((u : ℕ) �
 base_version plan k None f = refl
 base_version plan k (Some u) f = firm_writer plan u k (f u refl)
 
-pub prepare_moves : (plan : ℕ → Plan) (places : List Place) (w : History) (past : List Labelled) (e : Event) (before now : List StoreContents) (t : ℕ) (k : Key) (word : Ack) (done : Bool)
-    → Knows plan w past → ContainsHistory plan places w before → Effect places e before now → has_effect places e before now ≡ done → MayPrepare plan past e t k word → Moves plan places w (Prepares t (k ∷ []) word) done now
-prepare_moves plan places w past e before now t k word done knows held effect is m =
-    let alive = live w past m.client t knows.talks m.within in
-    let planned = knows.planned t alive.0 in
-    let outside = (planned.write k m.write m.at).1 in
-    let writes = written_some (plan t) k m.write m.at in
+-- what a prepare leaves, whether its client makes it or it lands
+record PutsPrepared (plan : ℕ → Plan) (places : List Place) (w : History) (t : ℕ) (k : Key) (word : Ack) (r : Reply) (done : Bool) (now : List StoreContents) : Type 0 where
+  version : done ≡ true → (q : Key) → has_key (k ∷ []) q ≡ true → has_version (w.rows q) (base_of (written (plan t) q)) ≡ true
+  applied : r ≡ reply.Applied → done ≡ true
+  held : ContainsHistory plan places (happens plan w (Prepares t (k ∷ []) word) done) now
+
+puts_prepared : (plan : ℕ → Plan) (places : List Place) (w : History) (past : List Labelled) (e : Event) (before now : List StoreContents) (t : ℕ) (k : Key) (word : Ack) (r : Reply) (done : Bool)
+    → Knows plan w past → ContainsHistory plan places w before → Effect places e before now → has_effect places e before now ≡ done → w.protocol.accepted t ≡ true → is_data k ≡ true → written (plan t) k ≢ None
+    → Asks e (prepare_of plan t k) r → PutsPrepared plan places w t k word r done now
+puts_prepared plan places w past e before now t k word r done knows held effect is accepted outside writes asks =
     let v = base_of (written (plan t) k) in
-    let fits : (u : ℕ) → base_of (written (plan t) k) ≡ Some u → u < 2 ^ 128 = λ u h. writer_fits plan w past k u knows (knows.inv.base t k u alive.0 h) in
-    let c = condition_of (version_of m.write.base) in
-    let same : condition_of (version_of m.write.base) ≡ condition_of (option_map id (base_of (written (plan t) k))) = ap (λ (x : Option Record). condition_of (version_of x)) (planned.base k m.write m.at) ∙ ap condition_of (base_version plan k v fits) in
-    let asks = subst (λ x. Asks e (ask.PutIf x (condition_of (version_of m.write.base))) m.r) (held_is plan t k m.write m.at) (called e m.client _ m.r m.call) in
-    let pc = put_call places e (record_prepared_by plan t k) c m.r before now done k asks effect is (held_key plan t k writes) (fresh_held (version_of m.write.base) (record_prepared_by plan t k) (held_open plan t k)) in
+    let c = condition_of (option_map id v) in
+    let fits : (u : ℕ) → base_of (written (plan t) k) ≡ Some u → u < 2 ^ 128 = λ u h. writer_fits plan w past k u knows (knows.inv.base t k u accepted h) in
+    let pc = put_call places e (record_prepared_by plan t k) c r before now done k asks effect is (held_key plan t k writes) (fresh_held (option_map id v) (record_prepared_by plan t k) (held_open plan t k)) in
     record {
-      allowed = (
-        alive.0,
-        inl (alive.1, subst (λ (x : ProtocolState). x.stage t ≡ Rattle.law_protocol.specs.History.Preparing) knows.talks m.stage, one_of (λ q. w.protocol.asked t q ≡ false) k (subst (λ (x : ProtocolState). x.asked t k ≡ false) knows.talks m.once)),
-        one_of (λ q. written (plan t) q ≢ None) k writes,
-        λ d. one_of (λ q. has_version (w.rows q) (base_of (written (plan t) q)) ≡ true) k (version_stands plan w past k v knows fits (subst (λ (x : Condition). holds x (option_map (record_for plan k) (w.rows k)) ≡ true) same (subst (λ x. holds c x ≡ true) (held.records k outside) (pc.changed.held d).0))),
-        λ y. pc.applied (yes_is word m.r m.word_is y),
-      );
+      version = λ d. one_of (λ q. has_version (w.rows q) (base_of (written (plan t) q)) ≡ true) k (version_stands plan w past k v knows fits (subst (λ x. holds c x ≡ true) (held.records k outside) (pc.changed.held d).0));
+      applied = pc.applied;
       held = link_write plan places w (happens plan w (Prepares t (k ∷ []) word) done) before now k c (Some (record_prepared_by plan t k)) (Some (Held t)) done held pc.changed outside (λ d. refl) (λ q. rows_are done q) (λ u. refl);
     }
   where
     rows_are : (b : Bool) (q : Key) → (happens plan w (Prepares t (k ∷ []) word) b).rows q ≡ (if b && same_key q k then Some (Held t) else w.rows q)
     rows_are true q = refl
     rows_are false q = refl
+
+-- the request of a prepare is the one that the plan has
+pub prepare_is : (plan : ℕ → Plan) (w : History) (past : List Labelled) (t : ℕ) (k : Key) (x : Write) → Knows plan w past → w.protocol.accepted t ≡ true → write_at (plan t) k ≡ Some x
+    → ask.PutIf (prepared_record x (id t) (plan t).now) (condition_of (version_of x.base)) ≡ prepare_of plan t k
+prepare_is plan w past t k x knows accepted at =
+    let planned = knows.planned t accepted in
+    let fits : (u : ℕ) → base_of (written (plan t) k) ≡ Some u → u < 2 ^ 128 = λ u h. writer_fits plan w past k u knows (knows.inv.base t k u accepted h) in
+    let same : condition_of (version_of x.base) ≡ condition_of (option_map id (base_of (written (plan t) k))) = ap (λ (x : Option Record). condition_of (version_of x)) (planned.base k x at) ∙ ap condition_of (base_version plan k (base_of (written (plan t) k)) fits) in
+    ap (λ r. ask.PutIf r (condition_of (version_of x.base))) (held_is plan t k x at) ∙ ap (ask.PutIf (record_prepared_by plan t k)) same
+
+pub prepare_moves : (plan : ℕ → Plan) (places : List Place) (w : History) (past : List Labelled) (e : Event) (before now : List StoreContents) (t : ℕ) (k : Key) (word : Ack) (done : Bool)
+    → Knows plan w past → ContainsHistory plan places w before → Effect places e before now → has_effect places e before now ≡ done → MayPrepare plan past e t k word → Moves plan places w (Prepares t (k ∷ []) word) done now
+prepare_moves plan places w past e before now t k word done knows held effect is m =
+    let alive = live w past m.client t knows.talks m.within in
+    let outside = ((knows.planned t alive.0).write k m.write m.at).1 in
+    let writes = written_some (plan t) k m.write m.at in
+    let asks = subst (λ x. Asks e x m.r) (prepare_is plan w past t k m.write knows alive.0 m.at) (called e m.client _ m.r m.call) in
+    let p = puts_prepared plan places w past e before now t k word m.r done knows held effect is alive.0 outside writes asks in
+    record {
+      allowed = (
+        alive.0,
+        inl (alive.1, subst (λ (x : ProtocolState). x.stage t ≡ Preparing) knows.talks m.stage, one_of (λ q. w.protocol.asked t q ≡ false) k (subst (λ (x : ProtocolState). x.asked t k ≡ false) knows.talks m.once)),
+        one_of (λ q. written (plan t) q ≢ None) k writes,
+        p.version,
+        λ y. p.applied (yes_is word m.r m.word_is y),
+      );
+      held = p.held;
+    }
+
+-- a prepare that lands
+pub late_prepare_moves : (plan : ℕ → Plan) (places : List Place) (w : History) (past : List Labelled) (e : Event) (before now : List StoreContents) (t : ℕ) (k : Key) (word : Ack) (q : Request) (r : Reply) (done : Bool)
+    → Knows plan w past → ContainsHistory plan places w before → Effect places e before now → has_effect places e before now ≡ done → Asks e q r → q ≡ prepare_of plan t k → StaysAllowed plan w (Prepares t (k ∷ []) word) → Moves plan places w (Prepares t (k ∷ []) word) done now
+late_prepare_moves plan places w past e before now t k word q r done knows held effect is asks form stays =
+    let writes = knows.inv.asked t k (stays.1.0 k (same_key_self k)).0 in
+    let outside = ((knows.planned t stays.0).write k (write_there (plan t) k) (writes_it (plan t) k writes)).1 in
+    let p = puts_prepared plan places w past e before now t k word r done knows held effect is stays.0 outside writes (subst (λ x. Asks e x r) form asks) in
+    record {
+      allowed = (stays.0, inr stays.1, one_of (λ q. written (plan t) q ≢ None) k writes, p.version, λ y. clash (sym y ∙ ap is_yes stays.1.1));
+      held = p.held;
+    }
 
 ---- rows
 
@@ -198,17 +236,20 @@ record PutsRow (plan : ℕ → Plan) (places : List Place) (w : History) (t : �
   met : is_met word ≡ true → done ≡ false → w.row t ≢ None
   held : (h : ProtocolState) → ContainsHistory plan places (with_row w h t d m done) now
 
-puts_row : (plan : ℕ → Plan) (places : List Place) (w : History) (e : Event) (client : ℕ) (before now : List StoreContents) (t : ℕ) (d : Decision) (m : ℤ) (r : Reply) (word : Ack) (done : Bool)
-    → t < 2 ^ 128 → ContainsHistory plan places w before → Effect places e before now → has_effect places e before now ≡ done → IsCallOf e client (ask.PutIf (coordinator_row_of (id t) d m) condition.Absent) r → word ≡ ack_of r → PutsRow plan places w t d m word done now
-puts_row plan places w e client before now t d m r word done fits held effect is call word_is =
+puts_row : (plan : ℕ → Plan) (places : List Place) (w : History) (e : Event) (before now : List StoreContents) (t : ℕ) (d : Decision) (m : ℤ) (r : Reply) (word : Ack) (done : Bool)
+    → t < 2 ^ 128 → ContainsHistory plan places w before → Effect places e before now → has_effect places e before now ≡ done → Asks e (ask.PutIf (coordinator_row_of (id t) d m) condition.Absent) r → (word ≡ ack_of r) ⊎ (word ≡ NoAck) → PutsRow plan places w t d m word done now
+puts_row plan places w e before now t d m r word done fits held effect is asks acks =
     let key = coordinator_key_of (id t) in
     let row = coordinator_row_of (id t) d m in
-    let pc = put_call places e row condition.Absent r before now done key (called e client _ r call) effect is (row-key (id t) d m) refl in
+    let pc = put_call places e row condition.Absent r before now done key asks effect is (row-key (id t) d m) refl in
     record {
       none = λ h. absent_row w t (subst (λ x. holds condition.Absent x ≡ true) (held.rows t fits) (pc.changed.held h).0);
-      yes = λ y. pc.applied (yes_is word r word_is y);
-      wanting = λ y. pc.wanting (wanting_is word r word_is y);
-      met = λ y n. present_row w t (subst (λ x. holds condition.Absent x ≡ false) (held.rows t fits) (met_is places t word r (Some row) before now done word_is pc y n));
+      yes = λ y. elim acks [ inl own ↦ pc.applied (yes_is word r own y) | inr none ↦ clash (sym y ∙ ap is_yes none) ];
+      wanting = λ y. elim acks [ inl own ↦ pc.wanting (wanting_is word r own y) | inr none ↦ clash (sym y ∙ ap is_out_of_memory_ack none) ];
+      met = λ y n. elim acks [
+        | inl own ↦ present_row w t (subst (λ x. holds condition.Absent x ≡ false) (held.rows t fits) (met_is places t word r (Some row) before now done own pc y n))
+        | inr none ↦ clash (sym y ∙ ap is_met none)
+      ];
       held = λ h. link_row plan places w (with_row w h t d m done) before now t d m condition.Absent done held pc.changed fits (λ q. refl) (row_put w h t d m done);
     }
 
@@ -216,7 +257,7 @@ pub decide_moves : (plan : ℕ → Plan) (places : List Place) (w : History) (pa
     → Knows plan w past → ContainsHistory plan places w before → Effect places e before now → has_effect places e before now ≡ done → MayDecide plan past e t word → Moves plan places w (Decides t word) done now
 decide_moves plan places w past e before now t word done knows held effect is m =
     let alive = live w past m.client t knows.talks m.within in
-    let p = puts_row plan places w e m.client before now t Committed (plan t).now m.r word done (accepted_fits w t knows.inv.begun knows.fits alive.0) held effect is m.call m.word_is in
+    let p = puts_row plan places w e before now t Committed (plan t).now m.r word done (accepted_fits w t knows.inv.begun knows.fits alive.0) held effect is (called e m.client _ m.r m.call) (inl m.word_is) in
     record {
       allowed = (
         alive.0,
@@ -232,8 +273,23 @@ decide_moves plan places w past e before now t word done knows held effect is m 
       held = p.held _;
     }
 
+-- a put of COMMITTED that lands
+pub late_decide_moves : (plan : ℕ → Plan) (places : List Place) (w : History) (past : List Labelled) (e : Event) (before now : List StoreContents) (t : ℕ) (word : Ack) (q : Request) (r : Reply) (done : Bool)
+    → Knows plan w past → ContainsHistory plan places w before → Effect places e before now → has_effect places e before now ≡ done → Asks e q r → HasForm plan q (Decides t word) → StaysAllowed plan w (Decides t word) → Moves plan places w (Decides t word) done now
+late_decide_moves plan places w past e before now t word q r done knows held effect is asks form stays =
+    let ready = stays.0 in
+    let p = puts_row plan places w e before now t Committed (plan t).now r word done (accepted_fits w t knows.inv.begun knows.fits ready.accepted) held effect is (subst (λ x. Asks e x r) form asks) (inr stays.1) in
+    record { allowed = (ready.accepted, inr ready.risked, ready.prepared, ready.checked, ready.agrees, p.none, p.yes, p.wanting, p.met); held = p.held _ }
+
 pub abort_moves : (plan : ℕ → Plan) (places : List Place) (w : History) (past : List Labelled) (e : Event) (before now : List StoreContents) (t : ℕ) (moment : ℤ) (word : Ack) (done : Bool)
     → ContainsHistory plan places w before → Effect places e before now → has_effect places e before now ≡ done → MayAbort past e t moment word → Moves plan places w (Aborts t moment word) done now
 abort_moves plan places w past e before now t moment word done held effect is m =
-    let p = puts_row plan places w e m.client before now t Aborted moment m.r word done m.fits held effect is m.call m.word_is in
+    let p = puts_row plan places w e before now t Aborted moment m.r word done m.fits held effect is (called e m.client _ m.r m.call) (inl m.word_is) in
+    record { allowed = (p.none, p.yes, p.met); held = p.held _ }
+
+-- a put of ABORTED that lands
+pub late_abort_moves : (plan : ℕ → Plan) (places : List Place) (w : History) (e : Event) (before now : List StoreContents) (t : ℕ) (moment : ℤ) (word : Ack) (q : Request) (r : Reply) (done : Bool)
+    → ContainsHistory plan places w before → Effect places e before now → has_effect places e before now ≡ done → Asks e q r → HasForm plan q (Aborts t moment word) → StaysAllowed plan w (Aborts t moment word) → Moves plan places w (Aborts t moment word) done now
+late_abort_moves plan places w e before now t moment word q r done held effect is asks form stays =
+    let p = puts_row plan places w e before now t Aborted moment r word done stays.0 held effect is (subst (λ x. Asks e x r) form asks) (inr stays.2) in
     record { allowed = (p.none, p.yes, p.met); held = p.held _ }

@@ -1,5 +1,5 @@
 -- A transaction's point is the last of its prepares that were seen and applied, or else the event that took its COMMIT.
-use Rattle.std.proofs.Common.{◌≡◌, ℕ, ℤ, ◌+◌, ◌<◌, ◌^◌, Bool, true, false, List, [], ◌∷◌, ◌++◌, suc, length, Option, Some, None, refl, sym, ap, subst, ◌∙◌, arith}
+use Rattle.std.proofs.Common.{◌≡◌, ◌≢◌, ℕ, ℤ, ◌+◌, ◌<◌, ◌^◌, Bool, true, false, List, [], ◌∷◌, ◌++◌, suc, length, Option, Some, None, inl, inr, refl, sym, ap, subst, ◌∙◌, arith}
 use Rattle.std.specs.Prelude.{fold, ◌||◌, ◌&&◌, ◌==◌, if◌then◌else◌, unwrap_or}
 use Rattle.std.specs.Option.{option_map}
 use Rattle.std.specs.List.{enumerate_from}
@@ -15,24 +15,27 @@ use Rattle.sdb_record.specs.declared.coordinator.Decision.TheVariants.{Committed
 use Rattle.sdb_record.specs.declared.write.Change.TheVariants as change
 use Rattle.sdb_record.specs.Coordinator.{coordinator_row_of}
 use Rattle.sdb_record.specs.Meta.{is_in}
-use Rattle.sdb_record.specs.Parts.{before_record}
-use Rattle.sdb_record.specs.Rolls.{forward_record, prepared_record, state_of_change, undo}
-use Rattle.sdb_record.proofs.Public.{forward-committed, prepared-version, version-writer}
+use Rattle.sdb_record.specs.Rolls.{prepared_record, state_of_change, undo}
+use Rattle.sdb_record.proofs.Public.{prepared-version, version-writer}
 use Rattle.sdb_model.specs.declared.event.Event.TheVariants as event
-use Rattle.sdb_model.specs.declared.event.How.TheVariants.{Seen, Lost, Discarded, Broken}
+use Rattle.sdb_model.specs.declared.event.How.TheVariants.{Seen, Lost, Discarded, Delayed, Broken}
 use Rattle.sdb_model.specs.Events.{StoreContents, Effect, IsPerformed, IsCall}
 use Rattle.sdb_model.specs.Transactions.{prepares, is_prepared_by, last_prepare}
 use Rattle.law_protocol.specs.Plan.{Plan, written}
-use Rattle.sdb_model.specs.ReadSet.{KeyRead, SpanRead, ReadItem}
+use Rattle.sdb_model.specs.Calls.{is_read}
 use Rattle.law_protocol.specs.History.{Action, Other, Begins, Takes, Prepares, Checks, Decides, Aborts, Rolls, Removes, Ends, Stops, is_yes, ProtocolState, History, state_after_event, base_of}
-use Rattle.law_protocol.specs.Lawful.{Labelled, protocol_state, ended, id, ack_of, is_quiet, IsCallOf, IsUnchanged, IsEnabled, MayRollBack}
+use Rattle.law_protocol.specs.Lawful.{Labelled, protocol_state, ended, id, ack_of, IsEnabled, MayOccur}
 use Rattle.law_protocol.specs.Records.{write_there, record_prepared_by, record_left_by}
+use Rattle.law_protocol.specs.Flight.{HasForm, StaysAllowed}
 use Rattle.law_protocol.specs.Trace.{closing, history}
 use Rattle.law_protocol.specs.Explained.{IsRunOf, newest_first, events_of}
 use Rattle.law_protocol.proofs.Canon.{held_writer, firm_committed, not_open_version, same_writer}
-use Rattle.law_protocol.proofs.Known.{accepted_fits, held_before}
-use Rattle.law_protocol.proofs.Settled.{Knows, IsOwn, prepared_there}
+use Rattle.law_protocol.proofs.Known.{accepted_fits}
+use Rattle.law_protocol.proofs.Settled.{Knows}
+use Rattle.law_protocol.proofs.Changes.{Asks as Asked}
+use Rattle.law_protocol.proofs.Landing.{form_of}
 use Rattle.law_protocol.proofs.Moves.{held_is}
+use Rattle.law_protocol.proofs.Occurring.{occurs_by}
 use Rattle.law_protocol.proofs.Whole.{Whole, whole}
 use Rattle.sdb_types.proofs.Public.{clash, tests}
 
@@ -48,10 +51,8 @@ no_prepare t client store q Seen (reply.Rows rows) a h = refl
 no_prepare t client store q Seen reply.Fault a h = refl
 no_prepare t client store q Lost r a h = refl
 no_prepare t client store q Discarded r a h = refl
+no_prepare t client store q Delayed r a h = refl
 no_prepare t client store q Broken r a h = refl
-
-no_call : (t : TxId) (e : Event) (client : ℕ) (q : Request) (r : Reply) → IsCallOf e client q r → prepares t q ≡ false → is_prepared_by t e ≡ false
-no_call t e client q r c h = ap (is_prepared_by t) c.call ∙ no_prepare t client c.store q c.how r c.answer h
 
 -- a committed record is no prepare
 pub firm_no : (t : TxId) (r : Record) (c : Condition) → is_in state.Committed r.columns ≡ true → prepares t (ask.PutIf r c) ≡ false
@@ -91,21 +92,13 @@ held_prepares plan t u k c a b = by (t == u) refl
     by true e = rw e (rw (same e) (or_version (id u) (record_prepared_by plan u k) (write_there (plan u) k).change (held_version plan u k)))
     by false e = rw e (ap (λ y. y || is_version (id t) state.Deleted (record_prepared_by plan u k)) (apart state.Prepared (is_version (id t) state.Prepared (record_prepared_by plan u k)) refl e) ∙ apart state.Deleted (is_version (id t) state.Deleted (record_prepared_by plan u k)) refl e)
 
--- what a reply was seen as
-seen_applied : (q : Request) (how : How) (held left : Contents) → IsPerformed q how reply.Applied held left → how ≡ Seen
-seen_applied q Seen held left p = refl
-seen_applied q Lost held left p = absurd (fault p.0)
-  where
-    fault : reply.Applied ≡ reply.Fault → ⊥
-    fault e = cc
-seen_applied q Discarded held left p = absurd (fault p.0)
-  where
-    fault : reply.Applied ≡ reply.Fault → ⊥
-    fault e = cc
-seen_applied q Broken held left p = absurd (fault p.0)
-  where
-    fault : reply.Applied ≡ reply.Fault → ⊥
-    fault e = cc
+-- a call that wasn't answered with a fault was seen
+pub seen_is : (q : Request) (how : How) (r : Reply) (held left : Contents) → IsPerformed q how r held left → r ≢ reply.Fault → how ≡ Seen
+seen_is q Seen r held left p n = refl
+seen_is q Lost r held left p n = absurd (n p.0)
+seen_is q Discarded r held left p n = absurd (n p.0)
+seen_is q Delayed r held left p n = absurd (n p.0)
+seen_is q Broken r held left p n = absurd (n p.0)
 
 abbrev is_applied : Reply → Bool
 is_applied r = is_yes (ack_of r)
@@ -120,6 +113,7 @@ unseen t client store q Seen (reply.Rows rows) a h = refl
 unseen t client store q Seen reply.Fault a h = refl
 unseen t client store q Lost r a h = refl
 unseen t client store q Discarded r a h = refl
+unseen t client store q Delayed r a h = refl
 unseen t client store q Broken r a h = refl
 
 applied_is : (r : Reply) → is_applied r ≡ true → r ≡ reply.Applied
@@ -141,12 +135,15 @@ told_prepare places t client store q how r a before now b h c = by (is_applied r
     true_right true = refl
     true_right false = refl
 
+    apart : reply.Applied ≡ reply.Fault → ⊥
+    apart e = cc
+
     by : (x : Bool) → is_applied r ≡ x → is_prepared_by t (event.Call client store q how r a) ≡ (b && is_yes (ack_of r))
     by false e = unseen t client store q how r a e ∙ sym (ap (λ x. b && x) e ∙ false_right b)
     by true e =
         let applied = applied_is r e in
         ap (λ x. is_prepared_by t (event.Call client store q how x a)) applied
-        ∙ ap (λ x. is_prepared_by t (event.Call client store q x reply.Applied a)) (seen_applied q how c.held c.left (subst (λ x. IsPerformed q how x c.held c.left) applied c.performed))
+        ∙ ap (λ x. is_prepared_by t (event.Call client store q x reply.Applied a)) (seen_is q how r c.held c.left c.performed (λ f. apart (sym applied ∙ f)))
         ∙ h ∙ sym (ap (λ x. b && x) e ∙ true_right b)
 
 -- the part of a answered prepare of t
@@ -154,54 +151,101 @@ abbrev tells_prepare : ℕ → Action → Bool
 tells_prepare t (Prepares u ks word) = (t == u) && is_yes word
 tells_prepare t _ = false
 
-quiet_no : (t : TxId) (e : Event) → is_quiet e ≡ true → is_prepared_by t e ≡ false
-quiet_no t (event.Take client text answer) h = refl
-quiet_no t (event.Call client store (ask.Get key) how r answer) h = no_prepare t client store (ask.Get key) how r answer refl
-quiet_no t (event.Call client store (ask.Scan span) how r answer) h = no_prepare t client store (ask.Scan span) how r answer refl
-quiet_no t (event.Call client store (ask.PutIf rec c) how r answer) h = clash (sym h)
-quiet_no t (event.Call client store (ask.DeleteIf key c) how r answer) h = clash (sym h)
-quiet_no t (event.Stop client) h = refl
-quiet_no t (event.Clock moment) h = refl
-quiet_no t (event.Idle client) h = refl
+-- the transaction of which an action prepares keys
+abbrev pub is_prepare_of : ℕ → Action → Bool
+is_prepare_of t (Prepares u ks word) = t == u
+is_prepare_of t _ = false
 
-note_no : (plan : Plan) (t : TxId) (item : ReadItem) (q : Request) (r : Reply) → IsUnchanged plan item q r → prepares t q ≡ false
-note_no plan t (KeyRead read) q r u = ap (prepares t) u.1
-note_no plan t (SpanRead scan) q r u = ap (prepares t) u.1
+read_no : (t : TxId) (q : Request) → is_read q ≡ true → prepares t q ≡ false
+read_no t (ask.Get key) h = refl
+read_no t (ask.Scan span) h = refl
+read_no t (ask.PutIf rec c) h = clash (sym h)
+read_no t (ask.DeleteIf key c) h = clash (sym h)
 
 back_no : (plan : ℕ → Plan) (t : TxId) (k : Key) (u : ℕ) (s : State) (v : Option ℕ) → prepares t (undo (condition.Version (id u) s) k (option_map (λ x. record_left_by plan x k) v)) ≡ false
 back_no plan t k u s None = refl
 back_no plan t k u s (Some x) = firm_no t (record_left_by plan x k) (condition.Version (id u) s) (firm_committed plan x k)
 
-prepared_by : (plan : ℕ → Plan) (places : List Place) (w : History) (past : List Labelled) (e : Event) (before now : List StoreContents) (r : Action) (t : ℕ) → Knows plan w past → Effect places e before now → IsEnabled plan past e r → t < 2 ^ 128 → is_prepared_by (id t) e ≡ tells_prepare t r
-prepared_by plan places w past e before now (Prepares u (k ∷ []) word) t knows effect m fits =
+abbrev pub WriterFits : Action → Type 0
+WriterFits (Prepares u ks word) = u < 2 ^ 128
+WriterFits _ = Unit {0}
+
+-- A request prepares what its action says.
+pub form_prepares : (plan : ℕ → Plan) (t : ℕ) (q : Request) (action : Action) → t < 2 ^ 128 → WriterFits action → HasForm plan q action → prepares (id t) q ≡ is_prepare_of t action
+form_prepares plan t q Other fits writer f = read_no (id t) q f
+form_prepares plan t q (Checks u i) fits writer f = read_no (id t) q f
+form_prepares plan t q (Prepares u [] word) fits writer f = absurd f
+form_prepares plan t q (Prepares u (k ∷ l ∷ ks) word) fits writer f = absurd f
+form_prepares plan t q (Prepares u (k ∷ []) word) fits writer f = ap (prepares (id t)) f ∙ held_prepares plan t u k (condition_of (option_map id (base_of (written (plan u) k)))) fits writer
+form_prepares plan t q (Decides u word) fits writer f = ap (prepares (id t)) f ∙ row_no (id t) u Committed (plan u).now condition.Absent
+form_prepares plan t q (Aborts u moment word) fits writer f = ap (prepares (id t)) f ∙ row_no (id t) u Aborted moment condition.Absent
+form_prepares plan t q (Rolls u [] d) fits writer f = absurd f
+form_prepares plan t q (Rolls u (k ∷ l ∷ ks) d) fits writer f = absurd f
+form_prepares plan t q (Rolls u (k ∷ []) Committed) fits writer f = ap (prepares (id t)) f.2 ∙ firm_no (id t) (record_left_by plan u k) (condition.Version (id u) f.0) (firm_committed plan u k)
+form_prepares plan t q (Rolls u (k ∷ []) Aborted) fits writer f = ap (prepares (id t)) f.2 ∙ back_no plan (id t) k u f.0 (base_of (written (plan u) k))
+form_prepares plan t q (Removes k u) fits writer f = ap (prepares (id t)) f
+form_prepares plan t q (Begins u c) fits writer f = absurd f
+form_prepares plan t q (Takes u) fits writer f = absurd f
+form_prepares plan t q (Ends u) fits writer f = absurd f
+form_prepares plan t q (Stops c) fits writer f = absurd f
+
+-- an event whose request is no prepare
+event_no : (t : TxId) (e : Event) → ((q : Request) (r : Reply) → Asked e q r → prepares t q ≡ false) → is_prepared_by t e ≡ false
+event_no t (event.Call client store q how r given) h = no_prepare t client store q how r given (h q r (record { store = store; how = how; is = refl }))
+event_no t (event.Take client text given) h = refl
+event_no t (event.Stop client) h = refl
+event_no t (event.Clock moment) h = refl
+event_no t (event.Idle client) h = refl
+event_no t (event.Land number store q how r) h = refl
+
+enabled_prepares : (plan : ℕ → Plan) (places : List Place) (w : History) (past : List Labelled) (e : Event) (before now : List StoreContents) (r : Action) (t : ℕ) → Knows plan w past → Effect places e before now → MayOccur plan past e r → IsEnabled plan past e r → t < 2 ^ 128 → is_prepared_by (id t) e ≡ tells_prepare t r
+enabled_prepares plan places w past e before now (Prepares u (k ∷ []) word) t knows effect o m fits =
     let accepted : w.protocol.accepted u ≡ true = subst (λ (x : ProtocolState). x.accepted u ≡ true) knows.talks m.within.accepted in
     let c = condition_of (version_of m.write.base) in
     ap (is_prepared_by (id t)) m.call.call
     ∙ told_prepare places (id t) m.client m.call.store (ask.PutIf (prepared_record m.write (id u) (plan u).now) c) m.call.how m.r m.call.answer before now (t == u) (ap (λ x. prepares (id t) (ask.PutIf x c)) (held_is plan u k m.write m.at) ∙ held_prepares plan t u k c fits (accepted_fits w u knows.inv.begun knows.fits accepted)) (subst (λ x. Effect places x before now) m.call.call effect)
     ∙ ap (λ x. (t == u) && is_yes x) (sym m.word_is)
-prepared_by plan places w past e before now (Prepares u [] word) t knows effect m fits = absurd m
-prepared_by plan places w past e before now (Prepares u (k ∷ l ∷ ks) word) t knows effect m fits = absurd m
-prepared_by plan places w past e before now Other t knows effect m fits = quiet_no (id t) e m
-prepared_by plan places w past e before now (Begins u c) t knows effect m fits = ap (is_prepared_by (id t)) m.take
-prepared_by plan places w past e before now (Takes u) t knows effect m fits = ap (is_prepared_by (id t)) m.take
-prepared_by plan places w past e before now (Checks u i) t knows effect m fits = no_call (id t) e m.client m.q m.r m.call (note_no (plan u) (id t) m.item m.q m.r m.unchanged)
-prepared_by plan places w past e before now (Decides u word) t knows effect m fits = no_call (id t) e m.client _ m.r m.call (row_no (id t) u Committed (plan u).now condition.Absent)
-prepared_by plan places w past e before now (Aborts u moment word) t knows effect m fits = no_call (id t) e m.client _ m.r m.call (row_no (id t) u Aborted moment condition.Absent)
-prepared_by plan places w past e before now (Rolls u [] d) t knows effect m fits = absurd m
-prepared_by plan places w past e before now (Rolls u (k ∷ l ∷ ks) d) t knows effect m fits = absurd m
-prepared_by plan places w past e before now (Rolls u (k ∷ []) Committed) t knows effect m fits = no_call (id t) e m.roll.client _ m.roll.r m.call (firm_no (id t) (forward_record m.roll.rolled m.moment) (condition.Version (id u) m.roll.s) (forward-committed m.roll.rolled m.moment))
-prepared_by plan places w past e before now (Rolls u (k ∷ []) Aborted) t knows effect m fits = back m (prepared_there plan w past u k m.roll.rolled knows m.roll.outside m.roll.prepared)
+enabled_prepares plan places w past e before now (Prepares u [] word) t knows effect o m fits = absurd m
+enabled_prepares plan places w past e before now (Prepares u (k ∷ l ∷ ks) word) t knows effect o m fits = absurd m
+enabled_prepares plan places w past e before now Other t knows effect o m fits = event_no (id t) e (λ q r a. form_prepares plan t q Other fits tt (form_of plan w past e Other q r knows o a))
+enabled_prepares plan places w past e before now (Begins u c) t knows effect o m fits = event_no (id t) e (λ q r a. form_prepares plan t q (Begins u c) fits tt (form_of plan w past e (Begins u c) q r knows o a))
+enabled_prepares plan places w past e before now (Takes u) t knows effect o m fits = event_no (id t) e (λ q r a. form_prepares plan t q (Takes u) fits tt (form_of plan w past e (Takes u) q r knows o a))
+enabled_prepares plan places w past e before now (Checks u i) t knows effect o m fits = event_no (id t) e (λ q r a. form_prepares plan t q (Checks u i) fits tt (form_of plan w past e (Checks u i) q r knows o a))
+enabled_prepares plan places w past e before now (Decides u word) t knows effect o m fits = event_no (id t) e (λ q r a. form_prepares plan t q (Decides u word) fits tt (form_of plan w past e (Decides u word) q r knows o a))
+enabled_prepares plan places w past e before now (Aborts u moment word) t knows effect o m fits = event_no (id t) e (λ q r a. form_prepares plan t q (Aborts u moment word) fits tt (form_of plan w past e (Aborts u moment word) q r knows o a))
+enabled_prepares plan places w past e before now (Rolls u ks d) t knows effect o m fits = event_no (id t) e (λ q r a. form_prepares plan t q (Rolls u ks d) fits tt (form_of plan w past e (Rolls u ks d) q r knows o a))
+enabled_prepares plan places w past e before now (Removes k u) t knows effect o m fits = event_no (id t) e (λ q r a. form_prepares plan t q (Removes k u) fits tt (form_of plan w past e (Removes k u) q r knows o a))
+enabled_prepares plan places w past e before now (Ends u) t knows effect o m fits = event_no (id t) e (λ q r a. form_prepares plan t q (Ends u) fits tt (form_of plan w past e (Ends u) q r knows o a))
+enabled_prepares plan places w past e before now (Stops c) t knows effect o m fits = event_no (id t) e (λ q r a. form_prepares plan t q (Stops c) fits tt (form_of plan w past e (Stops c) q r knows o a))
+
+-- what lands is not acknowledged
+unanswered : (plan : ℕ → Plan) (w : History) (t : ℕ) (r : Action) → StaysAllowed plan w r → tells_prepare t r ≡ false
+unanswered plan w t (Prepares u ks word) s = ap (λ x. (t == u) && is_yes x) s.1.1 ∙ off (t == u)
   where
-    back : (m : MayRollBack plan past e u k) → IsOwn plan w u k m.roll.rolled → is_prepared_by (id t) e ≡ false
-    back m own = no_call (id t) e m.roll.client _ m.roll.r m.call (ap (λ o. prepares (id t) (undo (condition.Version (id u) m.roll.s) k o)) (ap before_record own.same ∙ held_before plan u k (knows.planned u own.accepted) own.writes) ∙ back_no plan (id t) k u m.roll.s (base_of (written (plan u) k)))
-prepared_by plan places w past e before now (Removes k u) t knows effect m fits = no_call (id t) e m.client _ m.r m.call refl
-prepared_by plan places w past e before now (Ends u) t knows effect m fits = absurd m
-prepared_by plan places w past e before now (Stops c) t knows effect m fits = ap (is_prepared_by (id t)) m
+    off : (b : Bool) → (b && false) ≡ false
+    off true = refl
+    off false = refl
+unanswered plan w t Other s = refl
+unanswered plan w t (Begins u c) s = refl
+unanswered plan w t (Takes u) s = refl
+unanswered plan w t (Checks u i) s = refl
+unanswered plan w t (Decides u word) s = refl
+unanswered plan w t (Aborts u moment word) s = refl
+unanswered plan w t (Rolls u ks d) s = refl
+unanswered plan w t (Removes k u) s = refl
+unanswered plan w t (Ends u) s = refl
+unanswered plan w t (Stops c) s = refl
+
+prepared_by : (plan : ℕ → Plan) (places : List Place) (w : History) (past : List Labelled) (e : Event) (before now : List StoreContents) (r : Action) (t : ℕ) → Knows plan w past → Effect places e before now → MayOccur plan past e r → t < 2 ^ 128 → is_prepared_by (id t) e ≡ tells_prepare t r
+prepared_by plan places w past e before now r t knows effect o fits = elim (occurs_by plan past e r o) [
+  | inl m ↦ enabled_prepares plan places w past e before now r t knows effect o m fits
+  | inr l ↦ ap (is_prepared_by (id t)) l.land ∙ sym (unanswered plan w t r (knows.delayed l.request r l.was).1)
+]
 
 ---- counting
 
 -- the events in order
-abbrev in_order : List Labelled → List Event
+abbrev pub in_order : List Labelled → List Event
 in_order [] = []
 in_order (p ∷ past) = in_order past ++ p.event ∷ []
 
@@ -244,22 +288,41 @@ count h (Rolls u k d) t last next a e none point = grind (arith, tests)
 count h (Removes k u) t last next a e none point = grind (arith, tests)
 count h (Stops c) t last next a e none point = grind (arith, tests)
 
-asks : (plan : ℕ → Plan) (past : List Labelled) (e : Event) (r : Action) → IsEnabled plan past e r → Asks (protocol_state past) r
-asks plan past e (Takes u) m = m.fresh
-asks plan past e (Prepares u [] word) m = absurd m
-asks plan past e (Prepares u (k ∷ []) word) m = m.within.accepted
-asks plan past e (Prepares u (k ∷ l ∷ ks) word) m = absurd m
-asks plan past e (Ends u) m = m
-asks plan past e Other m = tt
-asks plan past e (Begins u c) m = tt
-asks plan past e (Checks u i) m = tt
-asks plan past e (Decides u word) m = tt
-asks plan past e (Aborts u moment word) m = tt
-asks plan past e (Rolls u k d) m = tt
-asks plan past e (Removes k u) m = tt
-asks plan past e (Stops c) m = tt
+enabled_asks : (plan : ℕ → Plan) (past : List Labelled) (e : Event) (r : Action) → IsEnabled plan past e r → Asks (protocol_state past) r
+enabled_asks plan past e (Takes u) m = m.fresh
+enabled_asks plan past e (Prepares u [] word) m = absurd m
+enabled_asks plan past e (Prepares u (k ∷ []) word) m = m.within.accepted
+enabled_asks plan past e (Prepares u (k ∷ l ∷ ks) word) m = absurd m
+enabled_asks plan past e (Ends u) m = m
+enabled_asks plan past e Other m = tt
+enabled_asks plan past e (Begins u c) m = tt
+enabled_asks plan past e (Checks u i) m = tt
+enabled_asks plan past e (Decides u word) m = tt
+enabled_asks plan past e (Aborts u moment word) m = tt
+enabled_asks plan past e (Rolls u k d) m = tt
+enabled_asks plan past e (Removes k u) m = tt
+enabled_asks plan past e (Stops c) m = tt
 
-length_snoc : (es : List Event) (e : Event) → length (es ++ e ∷ []) ≡ length es + 1
+late_asks : (plan : ℕ → Plan) (w : History) (r : Action) → StaysAllowed plan w r → Asks w.protocol r
+late_asks plan w (Prepares u ks word) s = s.0
+late_asks plan w Other s = tt
+late_asks plan w (Decides u word) s = tt
+late_asks plan w (Aborts u moment word) s = tt
+late_asks plan w (Rolls u ks d) s = tt
+late_asks plan w (Removes k u) s = tt
+late_asks plan w (Begins u c) s = absurd s
+late_asks plan w (Takes u) s = absurd s
+late_asks plan w (Checks u i) s = absurd s
+late_asks plan w (Ends u) s = absurd s
+late_asks plan w (Stops c) s = absurd s
+
+asks : (plan : ℕ → Plan) (w : History) (past : List Labelled) (e : Event) (r : Action) → Knows plan w past → MayOccur plan past e r → Asks (protocol_state past) r
+asks plan w past e r knows o = elim (occurs_by plan past e r o) [
+  | inl m ↦ enabled_asks plan past e r m
+  | inr l ↦ subst (λ (x : ProtocolState). Asks x r) (sym knows.talks) (late_asks plan w r (knows.delayed l.request r l.was).1)
+]
+
+pub length_snoc : (es : List Event) (e : Event) → length (es ++ e ∷ []) ≡ length es + 1
 length_snoc [] e = refl
 length_snoc (x ∷ es) e = more (length (es ++ e ∷ [])) (length es) (length_snoc es e)
   where
@@ -278,7 +341,7 @@ count_more plan places opening p past s ss t fits r c = over p.ends
         ∙ ap (λ n. if tells_prepare t p.action then Some (1 + n) else last_prepare (in_order past) (id t)) (sym c.now)
 
     x : ((state_after_event (protocol_state past) p.action).now ≡ (protocol_state past).now + 1) × ((state_after_event (protocol_state past) p.action).accepted t ≡ false → last_prepare (in_order past ++ p.event ∷ []) (id t) ≡ None) × ((state_after_event (protocol_state past) p.action).accepted t ≡ true → (state_after_event (protocol_state past) p.action).point t ≡ unwrap_or (last_prepare (in_order past ++ p.event ∷ []) (id t)) ((state_after_event (protocol_state past) p.action).accepted_at t))
-    x = count (protocol_state past) p.action t (last_prepare (in_order past) (id t)) (last_prepare (in_order past ++ p.event ∷ []) (id t)) (asks plan past p.event p.action r.lawful.1) next c.none c.point
+    x = count (protocol_state past) p.action t (last_prepare (in_order past) (id t)) (last_prepare (in_order past ++ p.event ∷ []) (id t)) (asks plan (history plan places opening past ss) past p.event p.action before.knows r.lawful.1) next c.none c.point
 
     numbered_now : (state_after_event (protocol_state past) p.action).now ≡ length (in_order past ++ p.event ∷ [])
     numbered_now = x.0 ∙ ap (λ n. n + 1) c.now ∙ sym (length_snoc (in_order past) p.event)
@@ -294,7 +357,7 @@ counted plan places opening (p ∷ past) (s ∷ ss) t fits r = count_more plan p
 
 ---- in order
 
-order_onto : (acc labelled : List Labelled) → in_order (fold (λ newer x. x ∷ newer) acc labelled) ≡ in_order acc ++ events_of labelled
+pub order_onto : (acc labelled : List Labelled) → in_order (fold (λ newer x. x ∷ newer) acc labelled) ≡ in_order acc ++ events_of labelled
 order_onto acc [] = sym (nil (in_order acc))
   where
     nil : (es : List Event) → es ++ [] ≡ es

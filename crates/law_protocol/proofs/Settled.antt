@@ -1,23 +1,24 @@
 -- What a read comes to is what a recorded transaction left.
 use Rattle.std.proofs.Common.{◌≡◌, ◌≢◌, ℕ, ℤ, ◌<◌, ◌^◌, true, false, List, Option, Some, None, inl, inr, refl, sym, ap, subst, ◌∙◌, arith}
 use Rattle.std.specs.Option.{option_map}
-use Rattle.law_protocol.specs.Types.{Decision, Key, Record}
+use Rattle.law_protocol.specs.Types.{Decision, Key, Record, Request}
 use Rattle.sdb_types.specs.declared.record.State.TheVariants as state
 use Rattle.sdb_record.specs.declared.coordinator.Decision.TheVariants.{Committed, Aborted}
 use Rattle.sdb_record.specs.Meta.{id_in, is_in}
 use Rattle.sdb_record.specs.Parts.{before_record}
 use Rattle.sdb_record.specs.Rolls.{forward_record}
 use Rattle.law_protocol.specs.Plan.{Plan, written}
-use Rattle.law_protocol.specs.History.{History, ProtocolState, base_of, IsWriter}
-use Rattle.law_protocol.specs.Lawful.{Labelled, protocol_state, IsObserved, IsPreparedObserved, IsSettled, Itself, Forward, Back, IsPreparedThere, prepared_at, IsKnownCommitted, IsKnownAborted}
+use Rattle.law_protocol.specs.History.{Action, History, ProtocolState, base_of, IsWriter}
+use Rattle.law_protocol.specs.Lawful.{Labelled, WasDelayed, protocol_state, IsObserved, IsPreparedObserved, IsSettled, Itself, Forward, Back, IsPreparedThere, prepared_at, IsKnownCommitted, IsKnownAborted}
 use Rattle.law_protocol.specs.Records.{record_prepared_by, record_left_by}
+use Rattle.law_protocol.specs.Flight.{HasForm, StaysAllowed}
 use Rattle.law_protocol.proofs.Cover.{Inv}
 use Rattle.law_protocol.proofs.Canon.{held_writer, held_open, firm_committed, same_writer}
 use Rattle.law_protocol.proofs.Known.{IsPlanned, IsFirmOf, IsHeldOf, Known, AreMoments, row_known, held_before, took_is_accepted, accepted_fits, writer_accepted, writes_it}
 use Rattle.sdb_types.proofs.Public.{clash}
 use Rattle.sdb_model.specs.Tables.{is_data}
 
--- What holds at a moment, over what was shown up to then.
+-- What holds at a moment, over what was observed and what was delayed up to then.
 pub record Knows (plan : ℕ → Plan) (w : History) (past : List Labelled) : Type 0 where
   pub inv : Inv plan w
   pub talks : protocol_state past ≡ w.protocol
@@ -25,11 +26,13 @@ pub record Knows (plan : ℕ → Plan) (w : History) (past : List Labelled) : Ty
   pub fits : (t : ℕ) → w.protocol.begun t ≢ 0 → t < 2 ^ 128
   pub planned : (t : ℕ) → w.protocol.accepted t ≡ true → IsPlanned plan t
   pub moments : (t : ℕ) → AreMoments plan w t
+  pub delayed : (q : Request) (action : Action) → WasDelayed past q action → HasForm plan q action × StaysAllowed plan w action
 
 -- a record that was shown unresolved is what its transaction prepared there
 pub record IsOwn (plan : ℕ → Plan) (w : History) (t : ℕ) (k : Key) (r : Record) : Type 0 where
   pub same : r ≡ record_prepared_by plan t k
   pub accepted : w.protocol.accepted t ≡ true
+  pub asked : w.protocol.asked t k ≡ true
   pub writes : written (plan t) k ≢ None
   pub fits : t < 2 ^ 128
 
@@ -50,6 +53,7 @@ held_shown plan w past t k r knows outside h = elim ((knows.observed r h.observe
         record {
           same = rw e at;
           accepted = rw e (took_is_accepted w x.t k knows.inv.accepted took_effect);
+          asked = rw e ((knows.inv.took_effect x.t k).0 took_effect).0;
           writes = rw e (knows.inv.asked x.t k ((knows.inv.took_effect x.t k).0 took_effect).0);
           fits = rw e x.fits;
         }
@@ -92,7 +96,7 @@ prepared_there plan w past t k r knows outside (inr h) =
     let asked : w.protocol.asked t k ≡ true = subst (λ (x : ProtocolState). x.asked t k ≡ true) knows.talks h.0 in
     let accepted = asked_taken asked in
     let writes = knows.inv.asked t k asked in
-    record { same = some_is r (record_prepared_by plan t k) (sym h.1 ∙ prepared_is plan t k writes); accepted = accepted; writes = writes; fits = accepted_fits w t knows.inv.begun knows.fits accepted }
+    record { same = some_is r (record_prepared_by plan t k) (sym h.1 ∙ prepared_is plan t k writes); accepted = accepted; asked = asked; writes = writes; fits = accepted_fits w t knows.inv.begun knows.fits accepted }
   where
     some_is : (x y : Record) → Some x ≡ Some y → x ≡ y
     some_is x y e = cc

@@ -3,7 +3,7 @@ use Rattle.std.proofs.Common.{◌≡◌, true, List, [], ◌∷◌, Some, inl, i
 use Rattle.law_protocol.specs.Types.{Event, How, Place, Reply, Request, Table, TableName}
 use Rattle.sdb_types.specs.Contents.{Contents, record_at, after}
 use Rattle.sdb_model.specs.declared.event.Event.TheVariants as event
-use Rattle.sdb_model.specs.declared.event.How.TheVariants.{Seen, Lost, Discarded, Broken}
+use Rattle.sdb_model.specs.declared.event.How.TheVariants.{Seen, Lost, Discarded, Delayed, Broken}
 use Rattle.sdb_model.specs.Rows.{Name}
 use Rattle.sdb_model.specs.Events.{StoreContents, Effect, IsTrace, IsCall, IsPerformed, contents_under, with_contents, store_of, table_asked}
 use Rattle.law_protocol.proofs.Effects.{stands_in_store}
@@ -41,10 +41,14 @@ one catalog places store q how r before now m c about h = by how refl c.performe
     by Seen e (inr w) = record { left = m; performed = inr (w.0, refl); same = still w.1 }
     by Lost e p = record { left = after q m; performed = (p.0, refl); same = done p.1 }
     by Discarded e p = record { left = m; performed = (p.0, refl); same = still p.1 }
+    by Delayed e p = record { left = m; performed = (p.0, refl); same = still p.1 }
     by Broken e p = elim p.1 [
       | inl x ↦ record { left = m; performed = (p.0, inl refl); same = still x }
       | inr x ↦ record { left = after q m; performed = (p.0, inr refl); same = done x }
     ]
+
+on_one : (catalog : List Table) (name : Name) (places : List Place) (q : Request) (how : How) (r : Reply) (m : Contents) (now : List StoreContents) (o : One catalog places q how r m now) → IsCall [] name q how r (one_store name m) (one_store name o.left)
+on_one catalog name places q how r m now o = record { held = m; left = o.left; placed = refl; found = one_held name m; performed = o.performed; others = sym (one_left name m o.left) }
 
 -- the one store's trace
 pub record Single (catalog : List Table) (name : Name) (places : List Place) (events : List Event) (m0 : Contents) (closing : List StoreContents) : Type 0 where
@@ -67,7 +71,12 @@ single {catalog} name {places} (event.Idle client ∷ es) before (s ∷ ss) clos
 single {catalog} name {places} (event.Call client store q how r answer ∷ es) before (s ∷ ss) closing {m} t about h =
     let o = one catalog places store q how r before s m t.0 about.0 h in
     one_more catalog name places (event.Call client store q how r answer) es m o.left closing
-    (record { held = m; left = o.left; placed = refl; found = one_held name m; performed = o.performed; others = sym (one_left name m o.left) })
+    (on_one catalog name places q how r m s o)
+    (single name es s ss closing t.1 about.1 o.same)
+single {catalog} name {places} (event.Land number store q how r ∷ es) before (s ∷ ss) closing {m} t about h =
+    let o = one catalog places store q how r before s m t.0 about.0 h in
+    one_more catalog name places (event.Land number store q how r) es m o.left closing
+    (on_one catalog name places q how r m s o)
     (single name es s ss closing t.1 about.1 o.same)
 
 pub single_of : (t : TraceOnMany) (name : Name) → HasTraceOnOne t name

@@ -81,8 +81,8 @@ DecidedOk plan w = (t : ℕ) → w.row t ≡ Some Committed → IsDecided plan w
 decided_same : (plan : ℕ → Plan) (w : History) (r : Action) (done : Bool) (t : ℕ) → w.row t ≡ Some Committed → w.protocol.accepted t ≡ true → w.protocol.stage t ≡ Deciding → w.protocol.risked t ≡ true → Allowed plan w r done → ((happens plan w r done).protocol.stage t ≡ Deciding) × ((happens plan w r done).protocol.risked t ≡ true) × ((happens plan w r done).protocol.point t ≡ w.protocol.point t) × ((happens plan w r done).decided_at t ≡ w.decided_at t)
 decided_same plan w r done t h accepted stage risked a = grind (arith, tests)
 
-decided_told : (plan : ℕ → Plan) (w : History) (r : Action) (done : Bool) (t : ℕ) (k : Key) → w.protocol.stage t ≡ Deciding → Allowed plan w r done → w.protocol.answered t k ≡ true → (happens plan w r done).protocol.answered t k ≡ true
-decided_told plan w r done t k stage a h = grind (arith, tests, at_one plan w r done k a)
+pub decided_answered : (plan : ℕ → Plan) (w : History) (r : Action) (done : Bool) (t : ℕ) (k : Key) → w.protocol.stage t ≡ Deciding → Allowed plan w r done → w.protocol.answered t k ≡ true → (happens plan w r done).protocol.answered t k ≡ true
+decided_answered plan w r done t k stage a h = grind (arith, tests, at_one plan w r done k a)
 
 pub checked_stays : (plan : ℕ → Plan) (w : History) (r : Action) (done : Bool) (t i : ℕ) → w.protocol.checked t i ≡ true → (happens plan w r done).protocol.checked t i ≡ true
 checked_stays plan w r done t i h = grind (arith, tests)
@@ -155,7 +155,7 @@ decided_ok plan w r done ok point accepted a t h = elim (was_committed (w.row t)
       let i = ok t old in
       let s = decided_same plan w r done t old (taken_of w t any_key accepted old) i.stage i.risked a in
       join_decided plan w (happens plan w r done) t s.0 s.1 (below s.2 s.3 i.point)
-      (λ k wr. decided_told plan w r done t k i.stage a (i.answered k wr))
+      (λ k wr. decided_answered plan w r done t k i.stage a (i.answered k wr))
       (λ j k found nt wr. checked_stays plan w r done t j (i.checked j k found nt wr))
       i.agrees
   | inr new ↦

@@ -7,7 +7,7 @@ use Rattle.law_protocol.specs.Types.{Event, How, Key, Place, Reply, Request, Tab
 use Rattle.sdb_types.specs.Contents.{Contents, record_at, after}
 use Rattle.sdb_record.proofs.Public.{same_name-itself, same_name-true}
 use Rattle.sdb_model.specs.declared.event.Event.TheVariants as event
-use Rattle.sdb_model.specs.declared.event.How.TheVariants.{Seen, Lost, Discarded, Broken}
+use Rattle.sdb_model.specs.declared.event.How.TheVariants.{Seen, Lost, Discarded, Delayed, Broken}
 use Rattle.sdb_model.specs.Rows.{Name, same_name}
 use Rattle.sdb_model.specs.Events.{StoreContents, contents_under, with_contents, store_of, stored_at, table_asked, IsPerformed, IsCall, Effect, IsTrace}
 use Rattle.law_protocol.proofs.Effects.{store_same, held_there, held_elsewhere}
@@ -72,6 +72,7 @@ performed_too q Seen r h m left s p = elim p [
 ]
 performed_too q Lost r h m left s p = effected q Lost r h m left s p.1 (p.0, refl)
 performed_too q Discarded r h m left s p = kept q Discarded r h m left p.1 (p.0, refl)
+performed_too q Delayed r h m left s p = kept q Delayed r h m left p.1 (p.0, refl)
 performed_too q Broken r h m left s p = elim p.1 [
   | inl e ↦ kept q Broken r h m left e (p.0, inl refl)
   | inr e ↦ effected q Broken r h m left s e (p.0, inr refl)
@@ -172,6 +173,11 @@ many_traced catalog name places at (event.Clock moment ∷ es) (s ∷ ss) before
 many_traced catalog name places at (event.Idle c ∷ es) (s ∷ ss) before m0 m1 t about ats shelved holds =
     many_still catalog places at (event.Idle c) es before m1 refl (many_traced catalog name places at es ss before m0 m1 (subst (λ (x : List StoreContents). IsTrace [] es x ss (one_store name m1)) t.0 t.1) about.1 ats shelved holds)
 many_traced catalog name places at (event.Call c store q how r given ∷ es) (s ∷ ss) before m0 m1 t about ats shelved holds =
+    let one = one_call name store q how r m0 s t.0 in
+    let many = many_call catalog places at q how r before m0 one.left about.0 ats shelved holds one.performed in
+    let rest = many_traced catalog name places at es ss many.now one.left m1 (subst (λ (x : List StoreContents). IsTrace [] es x ss (one_store name m1)) one.same t.1) about.1 many.ats many.shelved many.holds in
+    record { moments = many.now ∷ rest.moments; closing = rest.closing; trace = (many.called, rest.trace); holds = rest.holds }
+many_traced catalog name places at (event.Land number store q how r ∷ es) (s ∷ ss) before m0 m1 t about ats shelved holds =
     let one = one_call name store q how r m0 s t.0 in
     let many = many_call catalog places at q how r before m0 one.left about.0 ats shelved holds one.performed in
     let rest = many_traced catalog name places at es ss many.now one.left m1 (subst (λ (x : List StoreContents). IsTrace [] es x ss (one_store name m1)) one.same t.1) about.1 many.ats many.shelved many.holds in

@@ -77,6 +77,10 @@ AbortedRemoved plan places w store_contents = (t : ℕ) (k : Key) (r : Record) �
     ((is_in state.Committed r.columns ≡ true → id_in r.columns ≢ Some (id t))
     × ((b : Record) → is_in state.Committed r.columns ≡ false → before_record r ≡ Some b → id_in b.columns ≢ Some (id t)))
 
+-- Every prepare that a recorded transaction asked was seen and applied.
+abbrev pub RecordedAnswered : History → Type 0
+RecordedAnswered w = (t : ℕ) (k : Key) → w.row t ≡ Some Committed → w.protocol.asked t k ≡ true → w.protocol.answered t k ≡ true
+
 ---- images
 
 -- Of the recorded writers of a key it is the last by point.

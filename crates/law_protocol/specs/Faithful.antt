@@ -1,5 +1,5 @@
 -- Faithful runs: their actions are those that the model derives from the texts of the events.
-use Rattle.std.specs.Prelude.{None, ◌≡◌, ◌⊎◌, ◌↔◌, ℕ, ◌^◌, ◌<◌, true, List, [], ◌∷◌, Some, Contains}
+use Rattle.std.specs.Prelude.{None, ◌≡◌, ◌⊎◌, ◌↔◌, ℕ, ◌^◌, ◌<◌, ◌≤◌, false, true, List, [], ◌∷◌, length, take, Some, Contains}
 use Rattle.std.specs.Option.{option_map_or}
 use Rattle.law_protocol.specs.Types.{Answer, Event, Place, TxId}
 use Rattle.sdb_model.specs.declared.answer.Answer.TheVariants as answer
@@ -7,8 +7,10 @@ use Rattle.sdb_model.specs.Events.{StoreContents}
 use Rattle.sdb_model.specs.ReadSet.{ReadItem, read_set_of}
 use Rattle.sdb_model.specs.Serial.{commit_answer, CommittedIsOwned}
 use Rattle.law_protocol.specs.Plan.{Plan}
-use Rattle.law_protocol.specs.Explained.{IsDenied}
-use Rattle.sdb_model.specs.Transactions.{Executed, statements_by, begun, client_of, commit_of, Recorded}
+use Rattle.law_protocol.specs.Explained.{IsDenied, events_of, newest_first}
+use Rattle.sdb_model.specs.Follows.{has_stopped}
+use Rattle.sdb_model.specs.Transactions.{Executed, statements_by, begun, client_of, commit_of, ending, Recorded}
+use Rattle.law_protocol.specs.History.{IsLive}
 use Rattle.law_protocol.specs.Lawful.{Labelled, id, answer_of, is_denial, protocol_state}
 
 -- Committed was answered to a transaction's COMMIT by the event of this number.
@@ -36,6 +38,15 @@ pub record IsFaithful (events : List Event) (past : List Labelled) : Type 0 wher
   pub denied : (t : ℕ) (s : Executed) (a : Answer) → t < 2 ^ 128 → commit_of events (id t) ≡ Some s → s.answer ≡ Some a → is_denial a ≡ true → (protocol_state past).accepted t ≡ true → IsDenied past t
   pub owned : (client : ℕ) (s : Executed) → Contains (statements_by client events) s → s.answer ≡ Some answer.Committed → IsCommitOf events client s
   pub unknown : (t : ℕ) (s : Executed) (u : TxId) → commit_of events (id t) ≡ Some s → s.answer ≡ Some (answer.Unknown u) → u ≡ id t
+
+-- A transaction that is open by the texts, and whose client hasn't stopped, began by its action at the same event, and is open by the actions.
+abbrev pub AreLive : List Event → List Labelled → Type 0
+AreLive events past = (t began : ℕ) → begun events (id t) ≡ Some began → ending events (id t) ≡ None → has_stopped (client_of (id t)) events ≡ false → ((protocol_state past).begun t ≡ began) × IsLive (protocol_state past) t
+
+-- The actions agree with the texts about who is open, at each moment, and about whose a transaction is.
+pub record AgreesOnOpen (labelled : List Labelled) : Type 0 where
+  pub live : (n : ℕ) → n ≤ length labelled → AreLive (events_of (take n labelled)) (newest_first (take n labelled))
+  pub owned : (t : ℕ) → (protocol_state (newest_first labelled)).accepted t ≡ true → (protocol_state (newest_first labelled)).owner t ≡ client_of (id t)
 
 -- What the COMMIT of a transaction was answered is true: Committed only of a recorded one, and nothing else is answered so; and of
 -- a recorded one Committed, Unknown or nothing.

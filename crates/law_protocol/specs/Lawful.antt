@@ -18,6 +18,7 @@ use Rattle.sdb_record.specs.Rolls.{IsWrite, prepared_record, forward_record, is_
 use Rattle.sdb_record.specs.Among.{version_among}
 use Rattle.sdb_model.specs.declared.answer.Answer.TheVariants as answer
 use Rattle.sdb_model.specs.declared.event.Event.TheVariants as event
+use Rattle.sdb_model.specs.declared.event.How.TheVariants.{Delayed}
 use Rattle.sdb_model.specs.Sql.{reads_begin, reads_commit}
 use Rattle.sdb_model.specs.Rows.{Name}
 use Rattle.law_protocol.specs.Plan.{Plan, write_at, written, version_read_at}
@@ -276,6 +277,7 @@ is_quiet (event.Call client store (ask.DeleteIf key condition) how r answer) = f
 is_quiet (event.Stop client) = false
 is_quiet (event.Clock moment) = true
 is_quiet (event.Idle client) = true
+is_quiet (event.Land number store q how r) = false
 
 -- of a list of one key
 abbrev pub OfOneKey : List Key → (Key → Type 0) → Type 0
@@ -297,6 +299,29 @@ IsEnabled plan past e (Removes k t) = MayRemove past e k t
 IsEnabled plan past e (Ends t) = ⊥
 IsEnabled plan past e (Stops c) = e ≡ event.Stop c
 
+---- requests that take effect late
+
+-- an event is a call of this request that was delayed, with this action
+pub record IsDelayed (p : Labelled) (q : Request) (action : Action) : Type 0 where
+  pub client : ℕ
+  pub store : Name
+  pub answer : Option Answer
+  pub call : p.event ≡ event.Call client store q Delayed reply.Fault answer
+  pub action_is : p.action ≡ action
+
+-- A call of this request was delayed, with this action.
+abbrev pub WasDelayed : List Labelled → Request → Action → Type 0
+WasDelayed [] q action = ⊥
+WasDelayed (p ∷ past) q action = IsDelayed p q action ⊎ WasDelayed past q action
+
+-- An event may occur with this action. A landing has the action of the call that was delayed, of which its client learned nothing;
+-- any other event has one that is enabled. Nothing here asks that a request lands once.
+abbrev pub MayOccur : (ℕ → Plan) → List Labelled → Event → Action → Type 0
+MayOccur plan past (event.Land number store q how r) action = WasDelayed past q action
+MayOccur plan past e action = IsEnabled plan past e action
+
+---- answers
+
 -- the answer that an event gives to a statement
 abbrev pub answer_of : Event → Option Answer
 answer_of (event.Take client text answered) = answered
@@ -304,6 +329,7 @@ answer_of (event.Call client store q how r answered) = answered
 answer_of (event.Stop client) = None
 answer_of (event.Clock moment) = None
 answer_of (event.Idle client) = None
+answer_of (event.Land number store q how r) = None
 
 -- Committed is answered to the COMMIT of a transaction that is known to be committed by then.
 pub record MayAnswer (plan : ℕ → Plan) (past : List Labelled) (p : Labelled) : Type 0 where
@@ -331,12 +357,12 @@ pub record IsBadRow (past : List Labelled) (t : ℕ) : Type 0 where
 abbrev pub MayDeny : List Labelled → Labelled → Type 0
 MayDeny past p = (t : ℕ) → p.ends ≡ Some t → (protocol_state past).accepted t ≡ true → IsKnownAborted (p ∷ past) t ⊎ ((protocol_state (p ∷ past)).risked t ≡ false) ⊎ IsBadRow (p ∷ past) t
 
--- Each event may play its part and give its answer after those before it. What a transaction goes into its COMMIT with is its
+-- Each event may occur with its action and give its answer after those before it. What a transaction goes into its COMMIT with is its
 -- plan.
 abbrev pub IsLawful : (ℕ → Plan) → List Labelled → Type 0
 IsLawful plan [] = Unit {0}
 IsLawful plan (p ∷ past) =
-    IsLawful plan past × IsEnabled plan past p.event p.action
+    IsLawful plan past × MayOccur plan past p.event p.action
     × (answer_of p.event ≡ Some answer.Committed → MayAnswer plan past p)
     × ((a : Answer) → answer_of p.event ≡ Some a → is_denial a ≡ true → MayDeny past p)
 

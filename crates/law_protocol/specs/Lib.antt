@@ -5,6 +5,7 @@ pub mod Lawful
 pub mod Trace
 pub mod Changed
 pub mod Records
+pub mod Flight
 pub mod Explained
 pub mod Worked
 pub mod Forged

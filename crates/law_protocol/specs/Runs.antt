@@ -1,15 +1,15 @@
 -- Lawful runs, and what the laws ask of them.
-use Rattle.std.specs.Prelude.{◌≡◌, ◌<◌, ◌≤◌, ◌^◌, ◌++◌, ◌∷◌, All, List, None, Some, length, true, ℕ}
+use Rattle.std.specs.Prelude.{◌≡◌, ◌<◌, ◌≤◌, ◌^◌, ◌++◌, ◌∷◌, All, List, None, Some, length, take, true, ℕ}
 use Rattle.sdb_record.specs.Coordinator.{coordinator_table}
 use Rattle.sdb_record.specs.declared.coordinator.Decision.TheVariants.{Committed}
-use Rattle.law_protocol.specs.Types.{Event, Key, Place, Point, Table}
+use Rattle.law_protocol.specs.Types.{Event, Key, Place, Point, Request, Table}
 use Rattle.sdb_model.specs.Events.{IsTrace, StoreContents, moment}
 use Rattle.sdb_model.specs.Exec.{find_table}
 use Rattle.sdb_model.specs.Transactions.{IsOrder}
 use Rattle.law_protocol.specs.Explained.{IsRunOf, IsAnsweredCommitted, events_of, newest_first}
-use Rattle.law_protocol.specs.Faithful.{AreReadSets, IsFaithful}
-use Rattle.law_protocol.specs.History.{Begins, History, Prepares, ProtocolState, Ack, has_key}
-use Rattle.law_protocol.specs.Lawful.{Labelled, protocol_state}
+use Rattle.law_protocol.specs.Faithful.{AgreesOnOpen, AreReadSets, IsFaithful}
+use Rattle.law_protocol.specs.History.{Action, Begins, History, Prepares, ProtocolState, Ack, has_key}
+use Rattle.law_protocol.specs.Lawful.{Labelled, WasDelayed, protocol_state}
 use Rattle.law_protocol.specs.Plan.{Plan}
 use Rattle.law_protocol.specs.Trace.{closing, has_effect, history}
 
@@ -71,9 +71,36 @@ IsMomentOf r n = n ≤ length r.moments
 abbrev pub contents_at : RunInOrder → ℕ → List StoreContents
 contents_at r n = moment r.opening r.moments n
 
+-- its events up to a moment, newest first
+abbrev pub past_at : RunInOrder → ℕ → List Labelled
+past_at r n = newest_first (take n r.labelled)
+
+-- what its events up to a moment did
+abbrev pub history_at : RunInOrder → ℕ → History
+history_at r n = history r.plan r.places r.opening (past_at r n) (newest_first (take n r.moments))
+
+-- a transaction is recorded at a moment of it
+abbrev pub IsRecordedAt : RunInOrder → ℕ → ℕ → Type 0
+IsRecordedAt r n t = (history_at r n).row t ≡ Some Committed
+
+-- A call of it was delayed by a moment: what it asks, and its action.
+pub record DelayedCall (r : RunInOrder) (n : ℕ) : Type 0 where
+  pub request : Request
+  pub action : Action
+  pub was : WasDelayed (past_at r n) request action
+
+-- a call of this request was delayed by a moment
+pub record WasDelayedBy (r : RunInOrder) (n : ℕ) (q : Request) : Type 0 where
+  pub action : Action
+  pub was : WasDelayed (past_at r n) q action
+
 -- The parts that its events play are those that their texts say.
 abbrev pub IsFaithfulRun : RunInOrder → Type 0
 IsFaithfulRun r = IsFaithful (events_in r) (newest_first r.labelled)
+
+-- Its actions and its texts agree about who is open.
+abbrev pub AgreesOnOpenRun : RunInOrder → Type 0
+AgreesOnOpenRun r = AgreesOnOpen r.labelled
 
 -- The read sets of its plans are what the statements read.
 abbrev pub HasReadSets : RunInOrder → Type 0

@@ -15,13 +15,14 @@ use Rattle.sdb_model.specs.Tables.{is_table_of_run}
 abbrev pub one_store : Name → Contents → List StoreContents
 one_store name held = record { name = name; contents = held } ∷ []
 
--- an event, with its call made on the store that is given for its table's namespace
+-- an event, with its call made, or its request landing, on the store that is given for its table's namespace
 abbrev pub relocated_event : (Name → Name) → Event → Event
 relocated_event at (event.Take client text answer) = event.Take client text answer
 relocated_event at (event.Call client store q how r answer) = event.Call client (at (table_asked q).ns) q how r answer
 relocated_event at (event.Stop client) = event.Stop client
 relocated_event at (event.Clock moment) = event.Clock moment
 relocated_event at (event.Idle client) = event.Idle client
+relocated_event at (event.Land number store q how r) = event.Land number (at (table_asked q).ns) q how r
 
 abbrev pub relocated_events : (Name → Name) → List Event → List Event
 relocated_events at = map (relocated_event at)
@@ -30,9 +31,10 @@ relocated_events at = map (relocated_event at)
 abbrev pub relocated_outcome : (Name → Name) → Outcome → Outcome
 relocated_outcome at o = record { events = relocated_events at o.events; order = o.order; tables = o.tables }
 
--- a call is about one of them
+-- a call or a landing is about one of them
 abbrev pub IsAbout : List Table → Event → Type 0
 IsAbout catalog (event.Call client store q how r answer) = is_table_of_run catalog (table_asked q) ≡ true
+IsAbout catalog (event.Land number store q how r) = is_table_of_run catalog (table_asked q) ≡ true
 IsAbout catalog _ = Unit {0}
 
 abbrev pub AreAbout : List Table → List Event → Type 0

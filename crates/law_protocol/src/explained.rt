@@ -1,7 +1,14 @@
 //! The invariant of every moment, in terms of the model: which records are in the stores, and which event put them.
-ghost use Rattle.std.specs.Prelude.{◌≤◌, ℕ};
+ghost use Rattle.std.specs.Prelude.{◌≡◌, ◌≤◌, Some, false, take, ℕ};
 ghost use Rattle.sdb_model.specs.Explained.{AbortedRemoved, CommittedRecorded, PreparedPersists, ReadsCurrent, RowsFinal, UnchangedResolved, UnresolvedPrepared, WritesPersist};
-ghost use Rattle.law_protocol.specs.Runs.{DataTables, IsFaithfulRun, IsMomentOf, HasReadSets, RunInOrder, events_in, contents_at};
+ghost use Rattle.sdb_model.specs.Follows.{in_flight};
+ghost use Rattle.sdb_model.specs.InFlight.{FlightsExplained};
+ghost use Rattle.sdb_model.specs.Transactions.{prepares};
+ghost use Rattle.sdb_types.specs.declared.record.Request.{Request};
+ghost use Rattle.law_protocol.specs.Explained.{RecordedAnswered};
+ghost use Rattle.law_protocol.specs.Lawful.{id};
+ghost use Rattle.law_protocol.specs.Flight.{HasForm, StaysAllowed};
+ghost use Rattle.law_protocol.specs.Runs.{AgreesOnOpenRun, DataTables, DelayedCall, IsFaithfulRun, IsMomentOf, IsRecordedAt, HasReadSets, RunInOrder, WasDelayedBy, events_in, contents_at, history_at};
 
 /// At each moment a record in state COMMITTED names a transaction that is recorded by then.
 pub fn committed_recorded()
@@ -42,4 +49,24 @@ pub fn writes_persist()
 /// And where its plan's read set is what its statements read, each version that it read is of the last writer before its point.
 pub fn reads_are_current()
     ensures { (r : RunInOrder) (d : DataTables) → IsFaithfulRun r → HasReadSets r → ReadsCurrent d.catalog r.places (events_in r) r.opening r.moments }
+{}
+
+/// At each moment a request in flight is of a call that was delayed; it is what the call's action asks, by the plan of its transaction;
+/// and what it needs to take effect is so.
+pub fn delayed_stays_allowed()
+    ensures in_flight { (r : RunInOrder) (n k : ℕ) (q : Request) → IsMomentOf r n → in_flight k (take n (events_in r)) ≡ Some q → WasDelayedBy r n q }
+    ensures form { (r : RunInOrder) (n : ℕ) (d : DelayedCall r n) → IsMomentOf r n → HasForm r.plan d.request d.action }
+    ensures allowed { (r : RunInOrder) (n : ℕ) (d : DelayedCall r n) → IsMomentOf r n → StaysAllowed r.plan (history_at r n) d.action }
+{}
+
+/// At each moment every prepare that a recorded transaction asked was seen and applied, so none was delayed.
+pub fn recorded_was_prepared()
+    ensures answered { (r : RunInOrder) (n : ℕ) → IsMomentOf r n → RecordedAnswered (history_at r n) }
+    ensures none_delayed { (r : RunInOrder) (n t : ℕ) (d : DelayedCall r n) → IsMomentOf r n → IsRecordedAt r n t → prepares (id t) d.request ≡ false }
+{}
+
+/// At each moment, in terms of the model: what is put, rolled or removed by a request in flight, and that each prepare of a recorded
+/// transaction was seen and applied.
+pub fn flights_are_explained()
+    ensures { (r : RunInOrder) (d : DataTables) → IsFaithfulRun r → HasReadSets r → AgreesOnOpenRun r → FlightsExplained d.catalog r.places (events_in r) r.opening r.moments }
 {}

@@ -11,7 +11,7 @@ use Rattle.sdb_types.specs.declared.record.Request.TheVariants as ask
 use Rattle.sdb_types.specs.Replies.{is_answered, is_applied}
 use Rattle.sdb_types.proofs.Public.{clash, itself, none_some, one_of, some_is}
 use Rattle.sdb_model.specs.declared.event.Event.TheVariants as event
-use Rattle.sdb_model.specs.declared.event.How.TheVariants.{Seen, Lost, Discarded, Broken}
+use Rattle.sdb_model.specs.declared.event.How.TheVariants.{Seen, Lost, Discarded, Delayed, Broken}
 use Rattle.sdb_model.specs.Calls.{StoreCall, calls_before, calls_by, calls_of, end_of, key_asked, made_by, put_by}
 use Rattle.sdb_model.specs.Counted.{prepares_in}
 use Rattle.sdb_model.specs.Transactions.{Executed, commit_of, is_prepared_by, last_prepare, point, prepares, statements_by}
@@ -157,6 +157,7 @@ module _ (id : TxId) where
   made_prepares c k (event.Stop d) p made is = none_some p made
   made_prepares c k (event.Clock now) p made is = none_some p made
   made_prepares c k (event.Idle d) p made is = none_some p made
+  made_prepares c k (event.Land n store q how r) p made is = none_some p made
   made_prepares c k (event.Call d store q how r a) p made is = by (d == c) made
     where
       here : (q : Request) (how : How) (r : Reply) → (prepares id q ≡ true) × (how ≡ Seen) × (r ≡ reply.Applied) → is_prepared_by id (event.Call d store q how r a) ≡ true
@@ -216,11 +217,13 @@ module _ (id : TxId) where
       now (event.Call d store q Seen (reply.Rows rows) a) is same = clash (sym is)
       now (event.Call d store q Lost r a) is same = clash (sym is)
       now (event.Call d store q Discarded r a) is same = clash (sym is)
+      now (event.Call d store q Delayed r a) is same = clash (sym is)
       now (event.Call d store q Broken r a) is same = clash (sym is)
       now (event.Take d text a) is same = clash (sym is)
       now (event.Stop d) is same = clash (sym is)
       now (event.Clock moment) is same = clash (sym is)
       now (event.Idle d) is same = clash (sym is)
+      now (event.Land n store q how r) is same = clash (sym is)
 
       by_last : (b : Bool) → is_prepared_by id e ≡ b → (if b then Some k else o) ≡ Some n → (o ≡ Some n) ⊎ LastCall k (e ∷ es) n
       by_last true is same = inr (now e is (some_is k n same))

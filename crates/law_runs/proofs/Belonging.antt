@@ -85,7 +85,7 @@ module _ (w : WorldAt) (h : Holds w) (so : CallsAreOfStatements w.events) where
   others : (e : Event) (c : ℕ) (m : StoreCall) → made_by c (1 + length w.events, e) ≡ None → statements_by c (w.events ++ e ∷ []) ≡ statements_by c w.events → Contains (calls_by (w.events ++ e ∷ []) c) m → IsOfStatement (w.events ++ e ∷ []) c m
   others e c m none says has = keeps w.script.catalog w.events e c (states_of w.client_slots c).client m (h.caused.each c) none (λ s t. subst (λ (ss : List Executed). Contains ss s) (sym says) t) (so c m) has
 
-  of_call : (c : ℕ) (store : Name) (q : Request) (how : How) (r : Reply) (a : Option Answer) (u : State) → CallStep (state_of w) c q r a u → (m : StoreCall) → Contains (calls_by (w.events ++ event.Call c store q how r a ∷ []) c) m → IsOfStatement (w.events ++ event.Call c store q how r a ∷ []) c m
+  of_call : (c : ℕ) (store : Name) (q : Request) (how : How) (r : Reply) (a : Option Answer) (u : State) → CallStep (state_of w) c q how r a u → (m : StoreCall) → Contains (calls_by (w.events ++ event.Call c store q how r a ∷ []) c) m → IsOfStatement (w.events ++ event.Call c store q how r a ∷ []) c m
   of_call c store q how r a u t m =
       subst (λ (n : ℕ). Contains (calls_by (w.events ++ event.Call n store q how r a ∷ []) n) m → IsOfStatement (w.events ++ event.Call n store q how r a ∷ []) n m) (sym t.number)
       (let k : Knows w.script.catalog w.events (suc t.place) t.client_slot.client = at_hand (Knows w.script.catalog w.events (suc t.place)) w.client_slots t.place t.client_slot t.at (h.caused.each (suc t.place)) in
@@ -103,10 +103,11 @@ module _ (w : WorldAt) (h : Holds w) (so : CallsAreOfStatements w.events) where
   step_of (event.Stop c) u t d m has = others (event.Stop c) d m refl (executed_more d w.events (event.Stop c)) has
   step_of (event.Clock n) u t d m has = others (event.Clock n) d m refl (executed_more d w.events (event.Clock n)) has
   step_of (event.Idle c) u t d m has = others (event.Idle c) d m refl (executed_more d w.events (event.Idle c)) has
+  step_of (event.Land n store q how r) u t d m has = others (event.Land n store q how r) d m refl (executed_more d w.events (event.Land n store q how r)) has
 
 path_of : (es : List Event) (w : WorldAt) (t : State) → IsPath w.script (state_of w) es t → Holds w → CallsAreOfStatements w.events → CallsAreOfStatements (w.events ++ es)
 path_of [] w t h k so = subst CallsAreOfStatements (sym (append-nil w.events)) so
 path_of (e ∷ es) w t h k so = subst CallsAreOfStatements (append_assoc w.events (e ∷ []) es) (path_of es (led w e h.0) t h.2 (step_holds w e h.0 h.1 k) (step_of w k so e h.0 h.1))
 
 pub execution_belongs : (script : Script) (events : List Event) → IsPlayable script → IsExecution script events → CallsAreOfStatements events
-execution_belongs script events playable x = path_of events (record { script = script; client_slots = x.first.client_slots; events = []; clock = x.first.clock }) x.last x.path (first_holds script x.first playable x.initial) (λ c m has. none_in m has)
+execution_belongs script events playable x = path_of events (record { script = script; client_slots = x.first.client_slots; flights = x.first.flights; events = []; clock = x.first.clock }) x.last x.path (first_holds script x.first playable x.initial) (λ c m has. none_in m has)

@@ -14,7 +14,7 @@ use Rattle.law_clients.specs.About.{IsOfTables}
 use Rattle.law_clients.specs.Fitting.{tables_are_well_typed}
 use Rattle.law_clients.specs.States.{ClientState, IsReady, IsWaiting}
 use Rattle.law_answers.specs.Invariant.{AnswersHaveCauses, CauseInvariant, IsGate, with_stopped}
-use Rattle.law_answers.proofs.Public.{clock_all, explained, idles_all, replies_all, starts_all, stops_all, takes_all}
+use Rattle.law_answers.proofs.Public.{clock_all, explained, idles_all, lands_all, replies_all, starts_all, stops_all, takes_all}
 use Rattle.sdb_client.specs.Execution.{AreFresh, IsGateAt, IsPlayable, client_after, client_stopped}
 use Rattle.law_runs.specs.World.{WorldAt, at_moment, state_in, states_of, with_event, with_client}
 use Rattle.law_runs.specs.Linked.{HaveCauses, IsLinked, on_one}
@@ -27,11 +27,15 @@ use Rattle.sdb_model.specs.Calls.{is_stored_reply}
 same_kept : (catalog : List Table) (events : List Event) (moment : ℤ) (f g : ℕ → ClientState) → ((c : ℕ) → f c ≡ g c) → CauseInvariant catalog events moment f → CauseInvariant catalog events moment g
 same_kept catalog events moment f g same h = subst (λ (x : ℕ → ClientState). CauseInvariant catalog events moment x) (λ i c. same c i) h
 
-pub caused_new : (script : Script) (count : ℕ) (client_slots : List ClientSlot) (events : List Event) → AreFresh count client_slots → events ≡ [] → HaveCauses (record { script = script; client_slots = client_slots; events = events; clock = pos 0 })
+pub caused_new : (script : Script) (count : ℕ) (client_slots : List ClientSlot) (events : List Event) → AreFresh count client_slots → events ≡ [] → HaveCauses (record { script = script; client_slots = client_slots; flights = []; events = events; clock = pos 0 })
 caused_new script count client_slots events h none = subst (λ (es : List Event). CauseInvariant script.catalog es (pos 0) (states_of client_slots)) (sym none) (starts_all script.catalog (states_of client_slots) (fresh_hand count client_slots h))
 
 pub caused_idles : (w : WorldAt) (c : ℕ) → HaveCauses w → HaveCauses (with_event w (event.Idle c))
 caused_idles w c h = idles_all w.script.catalog w.events w.clock (states_of w.client_slots) c h
+
+-- a request lands
+pub caused_lands : (w : WorldAt) (number : ℕ) (store : Name) (q : Request) (how : How) (r : Reply) → HaveCauses w → HaveCauses (with_event w (event.Land number store q how r))
+caused_lands w number store q how r h = lands_all w.script.catalog w.events w.clock (states_of w.client_slots) number store q how r h
 
 pub caused_ticks : (w : WorldAt) (moment : ℤ) → HaveCauses w → HaveCauses (with_event (at_moment w moment) (event.Clock moment))
 caused_ticks w moment h = clock_all w.script.catalog w.events w.clock moment (states_of w.client_slots) h

@@ -14,7 +14,7 @@ use Rattle.sdb_types.specs.declared.record.Reply.TheVariants as reply
 use Rattle.sdb_types.specs.declared.record.Request.TheVariants as ask
 use Rattle.sdb_types.specs.Exact.{equal_of}
 use Rattle.sdb_types.proofs.Public.{and_parts, by_test, key_exact, key_total, less_of, none_some, truth}
-use Rattle.sdb_model.specs.declared.event.How.TheVariants.{Broken, Discarded, Lost, Seen}
+use Rattle.sdb_model.specs.declared.event.How.TheVariants.{Broken, Delayed, Discarded, Lost, Seen}
 use Rattle.sdb_model.specs.Events.{IsPerformed}
 use Rattle.sdb_model.specs.Exec.{Tables, all_rows, row_of_entry}
 use Rattle.law_protocol.proofs.Public.{after_delete, after_put}
@@ -121,6 +121,7 @@ performed_clear q Seen r before now k h (inl e) = record {
 performed_clear q Seen r before now k h (inr w) = record { reply = subst ReplyClear (sym w.0) tt; left = subst HeldClear (sym w.1) h }
 performed_clear q Lost r before now k h p = record { reply = subst ReplyClear (sym p.0) tt; left = subst HeldClear (sym p.1) (after_clear q before k h) }
 performed_clear q Discarded r before now k h p = record { reply = subst ReplyClear (sym p.0) tt; left = subst HeldClear (sym p.1) h }
+performed_clear q Delayed r before now k h p = record { reply = subst ReplyClear (sym p.0) tt; left = subst HeldClear (sym p.1) h }
 performed_clear q Broken r before now k h p = record {
   reply = subst ReplyClear (sym p.0) tt;
   left = elim p.1 [ inl e ↦ subst HeldClear (sym e) h | inr e ↦ subst HeldClear (sym e) (after_clear q before k h) ];

@@ -44,6 +44,11 @@ put_back name places at (event.Call client store q how r answer ∷ es) before (
     let rest = put_back name places at es s ss closing (λ ns. ap (λ (y : List StoreContents). store_of places y ns) c.others ∙ store_same places before store c.left ns ∙ same ns) t.1 in
     let there : at (table_asked q).ns ≡ store = sym (c.placed ∙ same (table_asked q).ns) in
     ap (λ (n : Name). event.Call client n q how r answer ∷ relocated_events at (relocated_events (λ ns. name) es)) there ∙ ap (λ (x : List Event). event.Call client store q how r answer ∷ x) rest
+put_back name places at (event.Land number store q how r ∷ es) before (s ∷ ss) closing same t =
+    let c = t.0 in
+    let rest = put_back name places at es s ss closing (λ ns. ap (λ (y : List StoreContents). store_of places y ns) c.others ∙ store_same places before store c.left ns ∙ same ns) t.1 in
+    let there : at (table_asked q).ns ≡ store = sym (c.placed ∙ same (table_asked q).ns) in
+    ap (λ (n : Name). event.Land number n q how r ∷ relocated_events at (relocated_events (λ ns. name) es)) there ∙ ap (λ (x : List Event). event.Land number store q how r ∷ x) rest
 
 ---- the order
 

@@ -1,31 +1,39 @@
 -- Which records there are at every moment of several stores, which events put them there, and that reads are current, by what is so of the one
 -- store.
-use Rattle.std.proofs.Common.{◌≡◌, ℕ, suc, ◌<◌, ◌≤◌, Bool, true, false, List, [], ◌∷◌, ◌++◌, length, Option, Some, None, inl, inr, refl, sym, ap, subst, ◌∙◌}
-use Rattle.std.specs.Prelude.{Contains, IsSomeAnd, is_some}
-use Rattle.std.specs.Option.{option_and_then}
+use Rattle.std.proofs.Common.{◌≡◌, ◌⊎◌, ℕ, zero, suc, ◌<◌, ◌≤◌, Bool, true, false, List, [], ◌∷◌, ◌++◌, length, Option, Some, None, inl, inr, refl, sym, ap, subst, ◌∙◌}
+use Rattle.std.specs.Prelude.{Contains, IsSomeAnd, is_some, map, take}
+use Rattle.std.specs.Option.{option_and_then, option_map}
 use Rattle.std.specs.Result.{result_ok}
 use Rattle.std.specs.FinMap.{empty}
 use Rattle.std.proofs.lemmas.List.{length-map}
+use Rattle.std.proofs.lemmas.List.Elements.{Contains-append_right}
 use Rattle.law_runs.specs.Types.{Answer, Decided, Event, How, Key, Place, Record, Reply, Request, Table, TxId}
 use Rattle.sdb_types.specs.Contents.{Contents}
-use Rattle.sdb_types.proofs.Public.{clash, or_first, or_true}
+use Rattle.sdb_types.proofs.Public.{none_some as none_of, one_of, or_first, or_true, some_is}
 use Rattle.sdb_record.specs.declared.coordinator.Decision.TheVariants as decision
 use Rattle.sdb_record.specs.Coordinator.{coordinator_key_of, coordinator_table, decision_in, is_coordinator_table}
 use Rattle.sdb_record.specs.Meta.{id_in}
 use Rattle.sdb_record.specs.Rolls.{image_of}
 use Rattle.sdb_model.specs.declared.event.Event.TheVariants as event
-use Rattle.sdb_model.specs.Events.{StoreContents, moment, stored_at, table_asked}
+use Rattle.sdb_model.specs.declared.event.How.TheVariants.{Seen}
+use Rattle.sdb_model.specs.Follows.{has_stopped, in_flight}
+use Rattle.sdb_model.specs.Events.{Contact, StoreContents, contact_of, moment, stored_at, table_asked}
+use Rattle.sdb_model.specs.Requests.{records_put}
 use Rattle.sdb_model.specs.Exec.{find_table}
-use Rattle.sdb_model.specs.Explained.{Explained, IsCurrent, IsLastBefore, IsLeftBy, IsOfOrLater, IsPrepareOf, IsPreparedAfter, IsTableKey, IsWriter, ReadsCurrent, ContentsExplained, closing_of, AreTransactional}
+use Rattle.sdb_model.specs.InFlight.{AllApplied, FlightsExplained, IsCertainAt, IsCheckedAt, IsInFlightAt, IsOfTombstone, IsOpenAt, IsRollBack, IsRollForward, WasAsked}
+use Rattle.sdb_model.specs.Explained.{Explained, IsAborted, IsCurrent, IsLastBefore, IsLeftBy, IsOfOrLater, IsPrepareOf, IsPreparedAfter, IsTableKey, IsWriter, ReadsCurrent, ContentsExplained, closing_of, AreTransactional}
 use Rattle.sdb_model.specs.Images.{decision_at, image_at}
 use Rattle.sdb_model.specs.ReadSet.{ReadItem}
 use Rattle.sdb_model.specs.Rows.{Name}
-use Rattle.sdb_model.specs.Transactions.{Recorded, point}
+use Rattle.sdb_model.specs.Transactions.{Executed, Recorded, begun, client_of, commit_of, ending, ending_in, from_begin, ordinal_of, point}
 use Rattle.sdb_model.proofs.Public.{call_of, puts_table}
-use Rattle.law_protocol.proofs.Public.{begun_moved, committed_at, current_at, gone_at, moved_more, point_moved, rows_at, stand_at, lies_at, unchanged_at, unresolved_at}
+use Rattle.law_protocol.proofs.Public.{begun_moved, commit_moved, committed_at, executed_moved, flight_moved, flights_at, stopped_moved, current_at, gone_at, moved_more, point_moved, rows_at, stand_at, lies_at, unchanged_at, unresolved_at}
 use Rattle.law_protocol.specs.Spread.{AreAbout, IsAbout, relocated_event, relocated_events, one_store}
 use Rattle.law_runs.proofs.Ended.{starts_empty}
 use Rattle.law_runs.proofs.Moments.{Alone, alone}
+use Rattle.law_runs.proofs.Calls.{the_first}
+use Rattle.law_runs.proofs.Lists.{among_map}
+use Rattle.law_runs.proofs.Statements.{none_in}
 use Rattle.law_runs.proofs.ReadItems.{noted_moved}
 use Rattle.law_runs.proofs.Runs.{IsLawfulRun, lawful_run}
 use Rattle.law_runs.proofs.StoredRecords.{accepted_at}
@@ -50,6 +58,12 @@ standing_by_run catalog places events opening moments none b =
 reads_by_run : (catalog : List Table) (places : List Place) (events : List Event) (opening : List StoreContents) (moments : List (List StoreContents)) → find_table catalog coordinator_table ≡ None → IsLawfulRun places events opening moments → ReadsCurrent catalog places events opening moments
 reads_by_run catalog places events opening moments none b = subst (λ (es : List Event). ReadsCurrent catalog places es opening moments) (sym b.same) (current_at b.labelled moments catalog b.run none b.faithful b.as_read)
 
+-- what is so of the requests in flight
+flights_by_run : (catalog : List Table) (places : List Place) (events : List Event) (opening : List StoreContents) (moments : List (List StoreContents)) → find_table catalog coordinator_table ≡ None → IsLawfulRun places events opening moments → FlightsExplained catalog places events opening moments
+flights_by_run catalog places events opening moments none b =
+    subst (λ (es : List Event). FlightsExplained catalog places es opening moments) (sym b.same)
+    (flights_at (record { plan = b.plan; places = places; opening = opening; labelled = b.labelled; moments = moments; run = b.run }) (record { catalog = catalog; apart = none }) b.faithful b.as_read b.agrees)
+
 ---- calls among events
 
 about_at : (catalog : List Table) (front : List Event) (e : Event) (back : List Event) → AreAbout catalog (front ++ e ∷ back) → IsAbout catalog e
@@ -57,11 +71,13 @@ about_at catalog [] e back h = h.0
 about_at catalog (x ∷ xs) e back h = about_at catalog xs e back h.1
 
 -- a call that was moved, among the events as they were
-record IsMoved (events front : List Event) (client : ℕ) (q : Request) (how : How) (r : Reply) (answer : Option Answer) : Type 0 where
+-- an event among those that were moved is one of them, moved
+record IsMoved (f : Event → Event) (events front : List Event) (e : Event) : Type 0 where
   early : List Event
-  store : Name
+  event : Event
   back : List Event
-  same : events ≡ early ++ event.Call client store q how r answer ∷ back
+  same : events ≡ early ++ event ∷ back
+  is : f event ≡ e
   long : length early ≡ length front
 
 none_some : (x : Event) (xs : List Event) → ◌≡◌ {A = List Event} [] (x ∷ xs) → ⊥
@@ -73,30 +89,71 @@ firsts x y xs ys h = cc
 others : (x y : Event) (xs ys : List Event) → ◌≡◌ {A = List Event} (x ∷ xs) (y ∷ ys) → xs ≡ ys
 others x y xs ys h = cc
 
-abbrev calls : Event → Bool
-calls (event.Call client store q how r answer) = true
-calls _ = false
+moved_from : (f : Event → Event) (events front : List Event) (e : Event) (back : List Event) → map f events ≡ front ++ e ∷ back → IsMoved f events front e
+moved_from f [] [] e back h = absurd (none_some _ _ h)
+moved_from f [] (x ∷ xs) e back h = absurd (none_some _ _ h)
+moved_from f (d ∷ es) [] e back h = record { early = []; event = d; back = es; same = refl; is = firsts (f d) e (map f es) back h; long = refl }
+moved_from f (d ∷ es) (x ∷ xs) e back h =
+    let rest = moved_from f es xs e back (others (f d) x (map f es) (xs ++ e ∷ back) h) in
+    record { early = d ∷ rest.early; event = rest.event; back = rest.back; same = ap (λ (ys : List Event). d ∷ ys) rest.same; is = rest.is; long = ap suc rest.long }
 
--- no other event is a call
-no_call : (e : Event) (es back : List Event) (client : ℕ) (store : Name) (q : Request) (how : How) (r : Reply) (answer : Option Answer) → calls e ≡ false → ◌≡◌ {A = List Event} (e ∷ es) (event.Call client store q how r answer ∷ back) → ⊥
-no_call e es back client store q how r answer other h = clash (sym (ap calls (firsts e (event.Call client store q how r answer) es back h)) ∙ other)
+---- contacts of events that are moved
 
-call_same : (c client : ℕ) (s u store : Name) (p q : Request) (g how : How) (b r : Reply) (a answer : Option Answer) (es fs back : List Event) → ◌≡◌ {A = List Event} (event.Call c u p g b a ∷ fs) (event.Call client store q how r answer ∷ back)
-    → ◌≡◌ {A = List Event} (event.Call c s p g b a ∷ es) (event.Call client s q how r answer ∷ es)
-call_same c client s u store p q g how b r a answer es fs back h = cc
+abbrev moved_contact : (Name → Name) → Contact → Contact
+moved_contact at c = record { store = at (table_asked c.request).ns; request = c.request; how = c.how; reply = c.reply }
 
-moved_from : (at : Name → Name) (events front back : List Event) (client : ℕ) (store : Name) (q : Request) (how : How) (r : Reply) (answer : Option Answer) → relocated_events at events ≡ front ++ event.Call client store q how r answer ∷ back → IsMoved events front client q how r answer
-moved_from at [] [] back client store q how r answer h = absurd (none_some _ _ h)
-moved_from at [] (f ∷ fs) back client store q how r answer h = absurd (none_some _ _ h)
-moved_from at (event.Take c text a ∷ es) [] back client store q how r answer h = absurd (no_call (event.Take c text a) (relocated_events at es) back client store q how r answer refl h)
-moved_from at (event.Call c s p g b a ∷ es) [] back client store q how r answer h =
-    record { early = []; store = s; back = es; same = call_same c client s (at (table_asked p).ns) store p q g how b r a answer es (relocated_events at es) back h; long = refl }
-moved_from at (event.Stop c ∷ es) [] back client store q how r answer h = absurd (no_call (event.Stop c) (relocated_events at es) back client store q how r answer refl h)
-moved_from at (event.Clock m ∷ es) [] back client store q how r answer h = absurd (no_call (event.Clock m) (relocated_events at es) back client store q how r answer refl h)
-moved_from at (event.Idle c ∷ es) [] back client store q how r answer h = absurd (no_call (event.Idle c) (relocated_events at es) back client store q how r answer refl h)
-moved_from at (e ∷ es) (f ∷ fs) back client store q how r answer h =
-    let rest = moved_from at es fs back client store q how r answer (others (relocated_event at e) f (relocated_events at es) (fs ++ event.Call client store q how r answer ∷ back) h) in
-    record { early = e ∷ rest.early; store = rest.store; back = rest.back; same = ap (λ (xs : List Event). e ∷ xs) rest.same; long = ap suc rest.long }
+contact_moved : (at : Name → Name) (e : Event) → contact_of (relocated_event at e) ≡ option_map (moved_contact at) (contact_of e)
+contact_moved at (event.Take c text a) = refl
+contact_moved at (event.Call c store q how r a) = refl
+contact_moved at (event.Stop c) = refl
+contact_moved at (event.Clock m) = refl
+contact_moved at (event.Idle c) = refl
+contact_moved at (event.Land n store q how r) = refl
+
+---- lists of events that are moved
+
+front_moved : (f : Event → Event) (n : ℕ) (es : List Event) → take n (map f es) ≡ map f (take n es)
+front_moved f zero es = refl
+front_moved f (suc n) [] = refl
+front_moved f (suc n) (e ∷ es) = ap (λ (xs : List Event). f e ∷ xs) (front_moved f n es)
+
+from_among : (f : Event → Event) (es : List Event) (e : Event) → Contains (map f es) e → (d : Event) × Contains es d × (f d ≡ e)
+from_among f [] e h = none_in e h
+from_among f (x ∷ xs) e h = by (one_of (f x) e (map f xs) h) (from_among f xs e)
+  where
+    by : (f x ≡ e) ⊎ Contains (map f xs) e → (Contains (map f xs) e → (d : Event) × Contains xs d × (f d ≡ e)) → (d : Event) × Contains (x ∷ xs) d × (f d ≡ e)
+    by (inl same) ih = (x, the_first x xs, same)
+    by (inr later) ih = let b = ih later in (b.0, Contains-append_right (x ∷ []) xs b.0 b.1, b.2)
+
+ending_moved : (at : Name → Name) (events : List Event) (id : TxId) → ending (relocated_events at events) id ≡ ending events id
+ending_moved at events id = ap (λ (ss : List Executed). ending_in (from_begin (ordinal_of id) ss)) (executed_moved at (client_of id) events)
+
+-- an event that is a call where it is moved is that call
+call_from : (at : Name → Name) (d : Event) (client : ℕ) (store : Name) (q : Request) (how : How) (r : Reply) (answer : Option Answer) → relocated_event at d ≡ event.Call client store q how r answer → (u : Name) × (d ≡ event.Call client u q how r answer)
+call_from at (event.Call c u p g b a) client store q how r answer is = (u, same is)
+  where
+    same : event.Call c (at (table_asked p).ns) p g b a ≡ event.Call client store q how r answer → event.Call c u p g b a ≡ event.Call client u q how r answer
+    same z = cc
+call_from at (event.Take c text a) client store q how r answer is = absurd (apart is)
+  where
+    apart : event.Take c text a ≡ event.Call client store q how r answer → ⊥
+    apart z = cc
+call_from at (event.Stop c) client store q how r answer is = absurd (apart is)
+  where
+    apart : event.Stop c ≡ event.Call client store q how r answer → ⊥
+    apart z = cc
+call_from at (event.Clock m) client store q how r answer is = absurd (apart is)
+  where
+    apart : event.Clock m ≡ event.Call client store q how r answer → ⊥
+    apart z = cc
+call_from at (event.Idle c) client store q how r answer is = absurd (apart is)
+  where
+    apart : event.Idle c ≡ event.Call client store q how r answer → ⊥
+    apart z = cc
+call_from at (event.Land n u p g b) client store q how r answer is = absurd (apart is)
+  where
+    apart : event.Land n (at (table_asked p).ns) p g b ≡ event.Call client store q how r answer → ⊥
+    apart z = cc
 
 ---- keys of the tables
 
@@ -154,41 +211,51 @@ module _ (catalog : List Table) (name : Name) (places : List Place) (events : Li
   call_on : (front : List Event) (client : ℕ) (store : Name) (q : Request) (how : How) (r : Reply) (answer : Option Answer) (back : List Event) → events ≡ front ++ event.Call client store q how r answer ∷ back → moved events ≡ moved front ++ event.Call client name q how r answer ∷ moved back
   call_on front client store q how r answer back same = ap moved same ∙ moved_more (λ ns. name) front (event.Call client store q how r answer ∷ back)
 
+  -- an event is about the table that it asks of
+  asked_about : (e : Event) (c : Contact) → contact_of e ≡ Some c → IsAbout catalog e → is_table_of_run catalog (table_asked c.request) ≡ true
+  asked_about e c asks h = elim (call_of e c asks) [
+    | inl x ↦ subst (IsAbout catalog) x.2 h
+    | inr x ↦ subst (IsAbout catalog) x.1 h
+  ]
+
   -- a prepare is about the table of the record that it puts
   prepare_played : (front : List Event) (id : TxId) (r : Record) (e : Event) (back : List Event) → events ≡ front ++ e ∷ back → IsPrepareOf id r e → is_table_of_run catalog r.key.table ≡ true
-  prepare_played front id r e back same p =
-      let c = call_of e p.contact p.asks in
-      ap (is_table_of_run catalog) (sym (puts_table p.contact.request r p.puts))
-      ∙ put_played front (event.Call c.0 p.contact.store p.contact.request p.contact.how p.contact.reply c.1) back (same ∙ ap (λ (x : Event). front ++ x ∷ back) c.2)
+  prepare_played front id r e back same p = ap (is_table_of_run catalog) (sym (puts_table p.contact.request r p.puts)) ∙ asked_about e p.contact p.asks (put_played front e back same)
 
-  put_in : (store : Name) (client : ℕ) (answer : Option Answer) (id : TxId) (r : Record) (e : Event) (p : IsPrepareOf id r e) → IsPrepareOf id r (event.Call client store p.contact.request p.contact.how p.contact.reply answer)
-  put_in store client answer id r e p = record { contact = record p.contact { store = store }; asks = refl; puts = p.puts; prepare = p.prepare }
+  put_on : (id : TxId) (r : Record) (e : Event) → IsPrepareOf id r e → IsPrepareOf id r (relocated_event (λ ns. name) e)
+  put_on id r e p = record { contact = moved_contact (λ ns. name) p.contact; asks = contact_moved (λ ns. name) e ∙ ap (option_map (moved_contact (λ ns. name))) p.asks; puts = p.puts; prepare = p.prepare }
+
+  put_off : (id : TxId) (r : Record) (e : Event) → IsPrepareOf id r (relocated_event (λ ns. name) e) → IsPrepareOf id r e
+  put_off id r e p = by (contact_of e) refl (sym (contact_moved (λ ns. name) e) ∙ p.asks)
+    where
+      by : (o : Option Contact) → contact_of e ≡ o → option_map (moved_contact (λ ns. name)) o ≡ Some p.contact → IsPrepareOf id r e
+      by None is same = none_of p.contact same
+      by (Some c) is same =
+          let asked : p.contact.request ≡ c.request = ap (λ (x : Contact). x.request) (sym (some_is (moved_contact (λ ns. name) c) p.contact same)) in
+          record { contact = c; asks = is; puts = subst (λ (q : Request). Contains (records_put q) r) asked p.puts; prepare = p.prepare }
 
   -- a prepare on several stores, and on the one
   prepared_on : (id : TxId) (r : Record) (front : List Event) → IsPreparedAfter places events opening moments id r front → IsPreparedAfter [] (moved events) (one_store name m) a.singles id r (moved front)
   prepared_on id r front p =
-      let c = call_of p.event p.put.contact p.put.asks in
       let labelled = prepare_played front id r p.event p.back p.at p.put in
       record {
-        event = event.Call c.0 name p.put.contact.request p.put.contact.how p.put.contact.reply c.1;
+        event = relocated_event (λ ns. name) p.event;
         back = moved p.back;
-        at = call_on front c.0 p.put.contact.store p.put.contact.request p.put.contact.how p.put.contact.reply c.1 p.back (p.at ∙ ap (λ (x : Event). front ++ x ∷ p.back) c.2);
-        put = put_in name c.0 c.1 id r p.event p.put;
+        at = ap moved p.at ∙ moved_more (λ ns. name) front (p.event ∷ p.back);
+        put = put_on id r p.event p.put;
         before = ap (λ (n : ℕ). stored_at [] (one n) r.key) (long front) ∙ sym (a.agrees (length front) r.key labelled) ∙ p.before;
         after = ap (λ (n : ℕ). stored_at [] (one (suc n)) r.key) (long front) ∙ sym (a.agrees (suc (length front)) r.key labelled) ∙ p.after;
       }
 
   prepared_back : (id : TxId) (r : Record) (front : List Event) → IsPreparedAfter [] (moved events) (one_store name m) a.singles id r front → (early : List Event) × (length early ≡ length front) × IsPreparedAfter places events opening moments id r early
   prepared_back id r front p =
-      let q = p.put.contact in
-      let c = call_of p.event q p.put.asks in
-      let b = moved_from (λ ns. name) events front p.back c.0 q.store q.request q.how q.reply c.1 (p.at ∙ ap (λ (x : Event). front ++ x ∷ p.back) c.2) in
-      let put = put_in b.store c.0 c.1 id r p.event p.put in
-      let labelled = prepare_played b.early id r (event.Call c.0 b.store q.request q.how q.reply c.1) b.back b.same put in (
+      let b = moved_from (relocated_event (λ ns. name)) events front p.event p.back p.at in
+      let put = put_off id r b.event (subst (IsPrepareOf id r) (sym b.is) p.put) in
+      let labelled = prepare_played b.early id r b.event b.back b.same put in (
         b.early,
         b.long,
         record {
-          event = event.Call c.0 b.store q.request q.how q.reply c.1;
+          event = b.event;
           back = b.back;
           at = b.same;
           put = put;
@@ -285,6 +352,111 @@ module _ (catalog : List Table) (name : Name) (places : List Place) (events : Li
   taken_back : AreTransactional catalog [] (one_store name m) a.singles → AreTransactional catalog places opening moments
   taken_back all n key r low table at = all n key r (within n low) table (sym (at_key n key table) ∙ at)
 
+  ---- requests in flight
+
+  up_to : (n : ℕ) → take n (moved events) ≡ moved (take n events)
+  up_to n = front_moved (relocated_event (λ ns. name)) n events
+
+  flying_on : (n : ℕ) (q : Request) → IsInFlightAt events n q → IsInFlightAt (moved events) n q
+  flying_on n q f = (f.0, ap (in_flight f.0) (up_to n) ∙ flight_moved (λ ns. name) f.0 (take n events) ∙ f.1)
+
+  was_back : (n : ℕ) (id : TxId) (r : Record) → WasAsked id r (take n (moved events)) → WasAsked id r (take n events)
+  was_back n id r w =
+      let b = from_among (relocated_event (λ ns. name)) (take n events) w.0 (subst (λ (es : List Event). Contains es w.0) (up_to n) w.1) in
+      (b.0, b.1, put_off id r b.0 (subst (IsPrepareOf id r) (sym b.2) w.2))
+
+  applied_back : (n : ℕ) (id : TxId) → AllApplied id (take n (moved events)) → AllApplied id (take n events)
+  applied_back n id all e c has asks prepares =
+      all (relocated_event (λ ns. name) e) (moved_contact (λ ns. name) c) (subst (λ (es : List Event). Contains es (relocated_event (λ ns. name) e)) (sym (up_to n)) (among_map (relocated_event (λ ns. name)) (take n events) e has))
+      (contact_moved (λ ns. name) e ∙ ap (option_map (moved_contact (λ ns. name))) asks) prepares
+
+  abbrev checked_back : (n : ℕ) (id : TxId) (key : Key) (version : Option TxId) → IsCheckedAt (moved events) n id key version → IsCheckedAt events n id key version
+  checked_back n id key version c =
+      let b = moved_from (relocated_event (λ ns. name)) (take n events) c.front (event.Call (client_of id) c.store c.request Seen c.reply c.answer) c.back (sym (up_to n) ∙ c.at) in
+      let d = call_from (λ ns. name) b.event (client_of id) c.store c.request Seen c.reply c.answer b.is in
+      record {
+        front = b.early;
+        store = d.0;
+        request = c.request;
+        reply = c.reply;
+        answer = c.answer;
+        back = b.back;
+        found = c.found;
+        at = b.same ∙ ap (λ (x : Event). b.early ++ x ∷ b.back) d.1;
+        accepted = subst (λ (o : Option Executed). IsSomeAnd o (λ s. s.accepted ≤ length b.early)) (commit_moved (λ ns. name) events id) (subst (λ (k : ℕ). IsSomeAnd (commit_of (moved events) id) (λ s. s.accepted ≤ k)) (sym b.long) c.accepted);
+        observed = c.observed;
+        unchanged = c.unchanged;
+      }
+
+  certain_back : (n : ℕ) (id : TxId) → IsCertainAt catalog (moved events) n id → IsCertainAt catalog events n id
+  certain_back n id c = record {
+    applied = applied_back n id c.applied;
+    checked = λ item key version among says table. elim (c.checked item key version (subst (λ (items : List ReadItem). Contains items item) (sym (noted_moved (λ ns. name) events id)) among) says table) [
+      | inl x ↦ inl (x.0, was_back n id x.0 x.1, x.2)
+      | inr x ↦ inr (checked_back n id key version x)
+    ];
+  }
+
+  aborted_back : (n : ℕ) (id : TxId) → IsAborted [] (one n) id → IsAborted places (many n) id
+  aborted_back n id h = subst (λ (o : Option Decided). IsSomeAnd o (λ d. d.decision ≡ decision.Aborted)) (sym (decided n id)) h
+
+  abbrev forward_back : (n : ℕ) (q : Request) (r : Record) → IsRollForward [] (take n (moved events)) (one n) q r → IsRollForward places (take n events) (many n) q r
+  forward_back n q r x = record {
+    id = x.id;
+    prepared = x.prepared;
+    when = x.when;
+    found = x.found;
+    was = was_back n x.id x.prepared x.was;
+    forward = x.forward;
+    unresolved = x.unresolved;
+    asked = x.asked;
+    recorded = recorded_back n x.id x.recorded;
+  }
+
+  abbrev undo_back : (n : ℕ) (q : Request) (r : Record) → IsRollBack [] (take n (moved events)) (one n) q r → IsRollBack places (take n events) (many n) q r
+  undo_back n q r x = record {
+    id = x.id;
+    prepared = x.prepared;
+    found = x.found;
+    was = was_back n x.id x.prepared x.was;
+    back = x.back;
+    unresolved = x.unresolved;
+    asked = x.asked;
+    aborted = aborted_back n x.id x.aborted;
+  }
+
+  open_on : (n : ℕ) (u : TxId) (began : ℕ) → IsOpenAt events n u began → IsOpenAt (moved events) n u began
+  open_on n u began o = record {
+    begins = ap (λ (es : List Event). begun es u) (up_to n) ∙ begun_moved (λ ns. name) (take n events) u ∙ o.begins;
+    unended = ap (λ (es : List Event). ending es u) (up_to n) ∙ ending_moved (λ ns. name) (take n events) u ∙ o.unended;
+    goes_on = ap (has_stopped (client_of u)) (up_to n) ∙ stopped_moved (λ ns. name) (client_of u) (take n events) ∙ o.goes_on;
+  }
+
+  abbrev tombstone_back : (n : ℕ) (key : Key) (id : TxId) → IsOfTombstone [] (moved events) (one_store name m) a.singles n key id → IsOfTombstone places events opening moments n key id
+  tombstone_back n key id x = record {
+    prepared = x.prepared;
+    was = was_back n id x.prepared x.was;
+    at = x.at;
+    deleted = x.deleted;
+    recorded = recorded_back n id x.recorded;
+    before = λ u began o. recorded_back began id (x.before u began (open_on n u began o));
+  }
+
+  flights_back : FlightsExplained catalog [] (moved events) (one_store name m) a.singles → FlightsExplained catalog places events opening moments
+  flights_back h = record {
+    recorded = λ n low id fits recorded.
+        let w = h.recorded n (within n low) id fits (recorded_on n id recorded) in
+        record { applied = applied_back n id w.applied; landed = λ q f. w.landed q (flying_on n q f) };
+    sound = λ n q low f.
+        let s = h.sound n q (within n low) (flying_on n q f) in
+        record {
+          committed = λ id fits puts. certain_back n id (s.committed id fits puts);
+          rolled = λ r puts table committed. elim (s.rolled r puts table committed) [ inl x ↦ inl (forward_back n q r x) | inr x ↦ inr (undo_back n q r x) ];
+          undone = λ key id st is unresolved. aborted_back n id (s.undone key id st is unresolved);
+          removed = λ key id is. tombstone_back n key id (s.removed key id is);
+        };
+  }
+
 ---- the whole
 
 -- the one store's moments, and the run that events make of them
@@ -303,6 +475,11 @@ invariant_is_explained t =
       stored_at = standing_back t.catalog t.running.name t.places t.running.events t.opening t.moments empty t.about b.0 (standing_by_run t.catalog [] (relocated_events (λ ns. t.running.name) t.running.events) (one_store t.running.name empty) b.0.singles t.apart b.1);
       reads_current = reads_back t.catalog t.running.name t.places t.running.events t.opening t.moments empty t.about b.0 (reads_by_run t.catalog [] (relocated_events (λ ns. t.running.name) t.running.events) (one_store t.running.name empty) b.0.singles t.apart b.1);
     }
+
+pub invariant_explains_flights : (t : TracedOnStores) → FlightsExplained t.catalog t.places t.running.events t.opening t.moments
+invariant_explains_flights t =
+    let b = beside t in
+    flights_back t.catalog t.running.name t.places t.running.events t.opening t.moments empty t.about b.0 (flights_by_run t.catalog [] (relocated_events (λ ns. t.running.name) t.running.events) (one_store t.running.name empty) b.0.singles t.apart b.1)
 
 pub invariant_is_accepted : (t : TracedOnStores) → AreTransactional t.catalog t.places t.opening t.moments
 invariant_is_accepted t =

@@ -5,7 +5,7 @@ use Rattle.std.specs.Option.{option_and_then, option_map_or}
 use Rattle.std.specs.Ordering.{is_eq}
 use Rattle.std.specs.Result.{result_ok}
 use Rattle.std.proofs.lemmas.Bool.{cases_lt}
-use Rattle.law_runs.specs.Types.{Answer, Decided, Event, Image, Key, Pair, Place, Record, Reply, Request, Table, TxId}
+use Rattle.law_runs.specs.Types.{Answer, Condition, Decided, Event, Image, Key, Pair, Place, Record, Reply, Request, Table, TxId}
 use Rattle.sdb_types.specs.declared.record.Request.TheVariants as ask
 use Rattle.sdb_types.specs.declared.record.Reply.TheVariants as reply
 use Rattle.sdb_types.specs.declared.record.State.TheVariants as state
@@ -40,8 +40,8 @@ use Rattle.law_runs.specs.Traces.{AnswersAsRead, HasNoDirtyReads, HasTransaction
 ---- one event
 
 -- A put at one key leaves what is at another.
-put_leaves : (places : List Place) (e : Event) (before now : List StoreContents) (k j : Key) → Effect places e before now → PutsAt e k → k ≢ j → stored_at places now j ≡ stored_at places before j
-put_leaves places (event.Call client store (ask.PutIf rec c) how r answer) before now k j effect put apart = stays (at_call places store (ask.PutIf rec c) how r before now effect)
+put_stays : (places : List Place) (rec : Record) (c : Condition) (r : Reply) (before now : List StoreContents) (k j : Key) → AtCall places (ask.PutIf rec c) r before now → rec.key ≡ k → k ≢ j → stored_at places now j ≡ stored_at places before j
+put_stays places rec c r before now k j a put apart = elim (a.there j) [ inl x ↦ x.1 ∙ same ∙ sym x.0 | inr x ↦ x.0 ]
   where
     other : same_key j rec.key ≡ false
     other = by (same_key_decides j rec.key)
@@ -57,11 +57,15 @@ put_leaves places (event.Call client store (ask.PutIf rec c) how r answer) befor
     left : (m : Contents) → record_at (after (ask.PutIf rec c) m) j ≡ record_at m j
     left m = after_put rec c m j ∙ ap (λ (s : Bool). if holds c (record_at m rec.key) && s then Some rec else record_at m j) other ∙ off (holds c (record_at m rec.key)) (Some rec) (record_at m j)
 
-    stays : AtCall places (ask.PutIf rec c) r before now → stored_at places now j ≡ stored_at places before j
-    stays a = elim (a.there j) [ inl x ↦ x.1 ∙ same ∙ sym x.0 | inr x ↦ x.0 ]
-      where
-        same : record_at a.left j ≡ record_at a.held j
-        same = elim a.moved [ inl m ↦ ap (λ (y : Contents). record_at y j) m.0 ∙ left a.held | inr m ↦ ap (λ (y : Contents). record_at y j) m.0 ]
+    same : record_at a.left j ≡ record_at a.held j
+    same = elim a.moved [ inl m ↦ ap (λ (y : Contents). record_at y j) m.0 ∙ left a.held | inr m ↦ ap (λ (y : Contents). record_at y j) m.0 ]
+
+put_leaves : (places : List Place) (e : Event) (before now : List StoreContents) (k j : Key) → Effect places e before now → PutsAt e k → k ≢ j → stored_at places now j ≡ stored_at places before j
+put_leaves places (event.Call client store (ask.PutIf rec c) how r answer) before now k j effect put apart = put_stays places rec c r before now k j (at_call places store (ask.PutIf rec c) how r before now effect) put apart
+put_leaves places (event.Land number store (ask.PutIf rec c) how r) before now k j effect put apart = put_stays places rec c r before now k j (at_call places store (ask.PutIf rec c) how r before now effect) put apart
+put_leaves places (event.Land number store (ask.Get key) how r) before now k j effect put apart = absurd put
+put_leaves places (event.Land number store (ask.Scan span) how r) before now k j effect put apart = absurd put
+put_leaves places (event.Land number store (ask.DeleteIf key c) how r) before now k j effect put apart = absurd put
 put_leaves places e before now k j effect put apart = absurd put
 
 -- what is at a key has that key

@@ -19,7 +19,7 @@ use Rattle.law_clients.specs.States.{ClientState, doing_of, system_of}
 use Rattle.law_clients.specs.History.{waiting_of}
 use Rattle.law_clients.proofs.Public.{others_silent, executed_more}
 use Rattle.law_answers.specs.Invariant.{IsWaiting, Knows}
-use Rattle.sdb_client.specs.Execution.{AreFresh, CallStep, IsExecution, IsPath, IsPlayable, IsStepFrom, State, TakeStep, client_after, client_stopped, with_client_at}
+use Rattle.sdb_client.specs.Execution.{AreFresh, CallStep, IsExecution, IsPath, IsPlayable, IsStepFrom, State, TakeStep, client_after, client_stopped, flights_after, with_client_at, with_flights}
 use Rattle.law_runs.specs.Found.{IsRunOnFound, RunsOnFound, answered_inside, is_answered}
 use Rattle.law_runs.specs.Linked.{on_one}
 use Rattle.law_runs.specs.World.{WorldAt, state_in, states_of, state_of}
@@ -62,8 +62,8 @@ rests_one w e n says h r =
     still_runs w.script.catalog w.events n (states_of w.client_slots n).client k r e (states_of w.client_slots n).client (ap (filter is_answered) says ∙ answered_of_is w.script.catalog w.events n (states_of w.client_slots n).client k) (sees_then w.script.catalog w.events n (states_of w.client_slots n).client k r e)
 
 -- one client moves, and the others are as they were
-moves_all : (w : WorldAt) (e : Event) (u : State) (i c : ℕ) (s y : ClientSlot) → c ≡ suc i → slice_get w.client_slots i ≡ Some s → u ≡ with_client_at (state_of w) i y → Holds w → AllRun w → ((n : ℕ) → (c ≡ n → ⊥) → statements_by n (w.events ++ e ∷ []) ≡ statements_by n w.events) → ClientRuns w.script.catalog (w.events ++ e ∷ []) c y.client → AllRun (led w e u)
-moves_all w e u i c s y number here left h all says own n = subst (λ (x : State). ClientRuns w.script.catalog (w.events ++ e ∷ []) n (states_of x.client_slots n).client) (sym left) (by_nat c n
+moves_all : (w : WorldAt) (e : Event) (u : State) (i c : ℕ) (s y : ClientSlot) (fs : List (Option Request)) → c ≡ suc i → slice_get w.client_slots i ≡ Some s → u ≡ with_flights (with_client_at (state_of w) i y) fs → Holds w → AllRun w → ((n : ℕ) → (c ≡ n → ⊥) → statements_by n (w.events ++ e ∷ []) ≡ statements_by n w.events) → ClientRuns w.script.catalog (w.events ++ e ∷ []) c y.client → AllRun (led w e u)
+moves_all w e u i c s y fs number here left h all says own n = subst (λ (x : State). ClientRuns w.script.catalog (w.events ++ e ∷ []) n (states_of x.client_slots n).client) (sym left) (by_nat c n
     (λ same. subst (λ (m : ℕ). ClientRuns w.script.catalog (w.events ++ e ∷ []) m (states_of (slice_set w.client_slots i y) m).client) same
     (subst (λ (x : ClientState). ClientRuns w.script.catalog (w.events ++ e ∷ []) c x.client) (sym (hand_at (slice_set w.client_slots i y) i c y number (set_here w.client_slots i s y here))) own))
     (λ apart. subst (λ (x : ClientState). ClientRuns w.script.catalog (w.events ++ e ∷ []) n x.client) (sym (other_at w.client_slots i c y n number apart)) (rests_one w e n (says n apart) h (all n))))
@@ -84,12 +84,12 @@ module _ (w : WorldAt) (h : Holds w) (all : AllRun w) where
   step_take : (c : ℕ) (text : List ℕ) (a : Option Answer) (u : State) (t : TakeStep w.script (state_of w) c text a u) → AllRun (led w (event.Take c text a) u)
   step_take c text a u t =
       let next_state : states_of w.client_slots c ≡ record { client = t.client_slot.client; stopped = t.client_slot.stopped } = hand_at w.client_slots t.place c t.client_slot t.number t.at in
-      moves_all w (event.Take c text a) u t.place c t.client_slot (client_after t.client_slot 1 t.client) t.number t.at t.left h all (λ n apart. others_silent w.events n c (event.Take c text a) apart refl)
+      moves_all w (event.Take c text a) u t.place c t.client_slot (client_after t.client_slot 1 t.client) w.flights t.number t.at t.left h all (λ n apart. others_silent w.events n c (event.Take c text a) apart refl)
       (takes_runs (record { catalog = catalog; now = w.clock; gate = t.gate; fresh = next_id t.client_slot.client }) h.world.playable.catalog h.world.playable.apart w.events c text t.client_slot.client (subst (λ (y : ClientState). Knows catalog w.events c y.client) next_state (h.caused.each c)) (subst (λ (y : ClientState). ClientRuns catalog w.events c y.client) next_state (all c)) t.idle a t.client t.takes)
 
-  step_call : (prepared : AllSo NothingMore WaitPrepares w) (c : ℕ) (store : Name) (q : Request) (how : How) (r : Reply) (a : Option Answer) (u : State) (t : CallStep (state_of w) c q r a u) → AllRun (led w (event.Call c store q how r a) u)
+  step_call : (prepared : AllSo NothingMore WaitPrepares w) (c : ℕ) (store : Name) (q : Request) (how : How) (r : Reply) (a : Option Answer) (u : State) (t : CallStep (state_of w) c q how r a u) → AllRun (led w (event.Call c store q how r a) u)
   step_call prepared c store q how r a u t =
-      moves_all w (event.Call c store q how r a) u t.place c t.client_slot (client_after t.client_slot 0 t.client) t.number t.at t.left h all (λ n apart. others_silent w.events n c (event.Call c store q how r a) apart refl)
+      moves_all w (event.Call c store q how r a) u t.place c t.client_slot (client_after t.client_slot 0 t.client) (flights_after w.flights how q) t.number t.at t.left h all (λ n apart. others_silent w.events n c (event.Call c store q how r a) apart refl)
       (calls_runs catalog h.world.playable.catalog h.world.playable.apart w.events c t.client_slot.client k (subst (λ (y : ClientState). ClientRuns catalog w.events c y.client) next_state (all c)) x.0 x.1 waits prepares store q how r w.clock h.world.moment h.caused.clock (h.world.each t.place t.client_slot t.at).about t.can kept t.client a
       (call_of catalog w.events c t.client_slot.client k x.0 x.1 q r w.clock a t.client t.pending (h.world.each t.place t.client_slot t.at).fitted t.takes))
     where
@@ -116,19 +116,23 @@ module _ (w : WorldAt) (h : Holds w) (all : AllRun w) where
   step_runs prepared (event.Take c text a) u t = step_take c text a u t
   step_runs prepared (event.Call c store q how r a) u t = step_call prepared c store q how r a u t
   step_runs prepared (event.Stop c) u t =
-      moves_all w (event.Stop c) u t.place c t.client_slot (client_stopped t.client_slot) t.number t.at t.left h all (λ n apart. executed_more n w.events (event.Stop c))
+      moves_all w (event.Stop c) u t.place c t.client_slot (client_stopped t.client_slot) w.flights t.number t.at t.left h all (λ n apart. executed_more n w.events (event.Stop c))
       (subst (λ (y : ClientState). ClientRuns catalog (w.events ++ event.Stop c ∷ []) c y.client) (hand_at w.client_slots t.place c t.client_slot t.number t.at) (rests_one w (event.Stop c) c (executed_more c w.events (event.Stop c)) h (all c)))
   step_runs prepared (event.Clock m) u t = λ n. subst (λ (x : State). ClientRuns catalog (w.events ++ event.Clock m ∷ []) n (states_of x.client_slots n).client) (sym t.1) (rests_one w (event.Clock m) n (executed_more n w.events (event.Clock m)) h (all n))
+  step_runs prepared (event.Land x store q how r) u t = λ n. subst (λ (x : State). ClientRuns catalog (w.events ++ e ∷ []) n (states_of x.client_slots n).client) (sym t.left) (rests_one w e n (executed_more n w.events e) h (all n))
+    where
+      e : Event
+      e = event.Land x store q how r
   step_runs prepared (event.Idle d) u t = λ n. subst (λ (x : State). ClientRuns catalog (w.events ++ event.Idle d ∷ []) n (states_of x.client_slots n).client) (sym t) (rests_one w (event.Idle d) n (executed_more n w.events (event.Idle d)) h (all n))
 
 ---- a whole execution
 
-pub path_runs : (es : List Event) (w : WorldAt) (t : State) → IsPath w.script (state_of w) es t → Holds w → AllSo NothingMore WaitPrepares w → AllRun w → AllRun (record { script = w.script; client_slots = t.client_slots; events = w.events ++ es; clock = t.clock })
+pub path_runs : (es : List Event) (w : WorldAt) (t : State) → IsPath w.script (state_of w) es t → Holds w → AllSo NothingMore WaitPrepares w → AllRun w → AllRun (record { script = w.script; client_slots = t.client_slots; flights = t.flights; events = w.events ++ es; clock = t.clock })
 path_runs [] w t h k prepared all =
-    subst (λ (x : State). AllRun (record { script = w.script; client_slots = x.client_slots; events = w.events ++ []; clock = x.clock })) (sym h)
-    (subst (λ (xs : List Event). AllRun (record { script = w.script; client_slots = w.client_slots; events = xs; clock = w.clock })) (sym (append-nil w.events)) all)
+    subst (λ (x : State). AllRun (record { script = w.script; client_slots = x.client_slots; flights = x.flights; events = w.events ++ []; clock = x.clock })) (sym h)
+    (subst (λ (xs : List Event). AllRun (record { script = w.script; client_slots = w.client_slots; flights = w.flights; events = xs; clock = w.clock })) (sym (append-nil w.events)) all)
 path_runs (e ∷ es) w t h k prepared all =
-    subst (λ (xs : List Event). AllRun (record { script = w.script; client_slots = t.client_slots; events = xs; clock = t.clock })) (append_assoc w.events (e ∷ []) es)
+    subst (λ (xs : List Event). AllRun (record { script = w.script; client_slots = t.client_slots; flights = t.flights; events = xs; clock = t.clock })) (append_assoc w.events (e ∷ []) es)
     (path_runs es (led w e h.0) t h.2 (step_holds w e h.0 h.1 k) (step_so NothingMore WaitPrepares prepares_kept w e h.0 h.1 k prepared) (step_runs w k all prepared e h.0 h.1))
 
 no_commits : (catalog : List Table) (c : ℕ) → CommitsWrote catalog [] c []
@@ -148,11 +152,11 @@ first_runs script client_slots count fresh c = subst (λ (y : ClientState). Clie
 
 module _ (script : Script) (events : List Event) (playable : IsPlayable script) (x : IsExecution script events) where
   abbrev pub w : WorldAt
-  w = record { script = script; client_slots = x.last.client_slots; events = events; clock = x.last.clock }
+  w = record { script = script; client_slots = x.last.client_slots; flights = x.last.flights; events = events; clock = x.last.clock }
 
   pub all_run : AllRun w
   all_run =
-      path_runs events (record { script = script; client_slots = x.first.client_slots; events = []; clock = x.first.clock }) x.last x.path (first_holds script x.first playable x.initial) (λ c s has. none_in s has)
+      path_runs events (record { script = script; client_slots = x.first.client_slots; flights = x.first.flights; events = []; clock = x.first.clock }) x.last x.path (first_holds script x.first playable x.initial) (λ c s has. none_in s has)
       (first_runs script x.first.client_slots (length script.clients) x.initial.fresh)
 
   -- Each of its transactions runs on what it has found.

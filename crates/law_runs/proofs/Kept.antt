@@ -9,7 +9,7 @@ use Rattle.law_protocol.specs.Spread.{IsAbout}
 use Rattle.sdb_client.specs.Client.{ClientAt}
 use Rattle.law_clients.specs.About.{IsOfTables}
 use Rattle.law_clients.specs.States.{IsAfter}
-use Rattle.law_runs.specs.World.{IsClientState, IsWorld, WorldAt, at_moment, with_event, with_client}
+use Rattle.law_runs.specs.World.{AreInFlight, IsClientState, IsWorld, WorldAt, at_moment, with_client, with_event, with_late}
 use Rattle.sdb_client.specs.Execution.{client_after, client_stopped}
 use Rattle.law_runs.proofs.Slots.{set_here, set_length, set_other, suc_is}
 use Rattle.law_runs.proofs.Ties.{IsApart, apart_pending, apart_stopped, apart_taken, own_call_pending, own_call_stopped, own_call_taken, own_stop_pending, own_stop_stopped, own_stop_taken, own_take_pending, own_take_stopped, own_take_taken}
@@ -35,34 +35,37 @@ seat_stays script es e j s apart h = record {
 }
 
 -- an event that is of no client's doing
-pub world_stays : (w : WorldAt) (e : Event) → ((j : ℕ) → IsApart (suc j) e) → IsAbout w.script.catalog e → IsWorld w → IsWorld (with_event w e)
-world_stays w e apart about h = record {
+pub world_stays : (w : WorldAt) (e : Event) (fs : List (Option Request)) → ((j : ℕ) → IsApart (suc j) e) → IsAbout w.script.catalog e → AreInFlight (w.events ++ e ∷ []) fs → IsWorld w → IsWorld (with_late (with_event w e) fs)
+world_stays w e fs apart about late h = record {
   playable = h.playable;
   clients = h.clients;
   each = λ j s at. seat_stays w.script w.events e j s (apart j) (h.each j s at);
+  late = late;
   moment = h.moment;
   about = all_more (IsAbout w.script.catalog) w.events e h.about about;
 }
 
 -- the clock moves
-pub world_ticks : (w : WorldAt) (m : ℤ) → is_moment m ≡ true → ((j : ℕ) → IsApart (suc j) (event.Clock m)) → IsWorld w → IsWorld (with_event (at_moment w m) (event.Clock m))
-world_ticks w m is apart h = record {
+pub world_ticks : (w : WorldAt) (m : ℤ) → is_moment m ≡ true → ((j : ℕ) → IsApart (suc j) (event.Clock m)) → AreInFlight (w.events ++ event.Clock m ∷ []) w.flights → IsWorld w → IsWorld (with_event (at_moment w m) (event.Clock m))
+world_ticks w m is apart late h = record {
   playable = h.playable;
   clients = h.clients;
   each = λ j s at. seat_stays w.script w.events (event.Clock m) j s (apart j) (h.each j s at);
+  late = late;
   moment = is;
   about = all_more (IsAbout w.script.catalog) w.events (event.Clock m) h.about tt;
 }
 
 -- a client is elsewhere, and the event is its own
-pub world_moves : (w : WorldAt) (i : ℕ) (s t : ClientSlot) (e : Event) → slice_get w.client_slots i ≡ Some s → ((j : ℕ) → (i ≡ j → ⊥) → IsApart (suc j) e) → IsClientState w.script (w.events ++ e ∷ []) i t → IsAbout w.script.catalog e → IsWorld w → IsWorld (with_event (with_client w i t) e)
-world_moves w i s t e at apart own about h = record {
+pub world_moves : (w : WorldAt) (i : ℕ) (s t : ClientSlot) (e : Event) (fs : List (Option Request)) → slice_get w.client_slots i ≡ Some s → ((j : ℕ) → (i ≡ j → ⊥) → IsApart (suc j) e) → IsClientState w.script (w.events ++ e ∷ []) i t → IsAbout w.script.catalog e → AreInFlight (w.events ++ e ∷ []) fs → IsWorld w → IsWorld (with_late (with_event (with_client w i t) e) fs)
+world_moves w i s t e fs at apart own about late h = record {
   playable = h.playable;
   clients = set_length w.client_slots i t ∙ h.clients;
   each = λ j u there.
       by_nat i j
       (λ same. subst (λ (k : ℕ). slice_get (slice_set w.client_slots i t) k ≡ Some u → IsClientState w.script (w.events ++ e ∷ []) k u) same (λ here. subst (IsClientState w.script (w.events ++ e ∷ []) i) (some_is t u (sym (set_here w.client_slots i s t at) ∙ here)) own) there)
       (λ other. seat_stays w.script w.events e j u (apart j other) (h.each j u (sym (set_other w.client_slots i j t (λ same. other (sym same))) ∙ there)));
+  late = late;
   moment = h.moment;
   about = all_more (IsAbout w.script.catalog) w.events e h.about about;
 }

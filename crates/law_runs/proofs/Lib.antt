@@ -14,6 +14,7 @@ mod Finding
 mod Slots
 mod Ties
 mod Kept
+mod Flights
 mod Gates
 mod Linked
 mod Causing

@@ -6,6 +6,8 @@ use Rattle.law_runs.specs.Types.{Answer, ClientSlot, Event, How, Reply, Request,
 use Rattle.sdb_types.specs.Contents.{CanAnswer}
 use Rattle.sdb_record.specs.Meta.{is_moment}
 use Rattle.sdb_model.specs.declared.event.Event.TheVariants as event
+use Rattle.sdb_types.specs.declared.record.Reply.TheVariants as reply
+use Rattle.sdb_model.specs.declared.event.How.TheVariants.{Delayed}
 use Rattle.sdb_model.specs.Rows.{Name}
 use Rattle.sdb_model.specs.Exec.{Tables}
 use Rattle.law_protocol.specs.History.{at}
@@ -14,8 +16,9 @@ use Rattle.law_protocol.proofs.Public.{moved_more}
 use Rattle.sdb_client.specs.Client.{ClientAt as Client, Taking, nothing_done, next_id}
 use Rattle.sdb_client.specs.Step.{Receives, Step, Takes}
 use Rattle.law_clients.specs.System.{ClientAt, Stopped, SystemAt}
-use Rattle.law_clients.specs.Invariant.{ClientInvariant, IsOpenOf, RunInvariant, IsSilent}
-use Rattle.law_clients.proofs.Public.{invariant_rests, invariant_starts, invariant_stops, kept_at, mapped_at, replies_so, takes_so}
+use Rattle.law_clients.specs.Invariant.{ClientInvariant, HasDelayed, IsOpenOf, RunInvariant, IsSilent}
+use Rattle.law_runs.proofs.Lists.{among_map}
+use Rattle.law_clients.proofs.Public.{invariant_lands, invariant_rests, invariant_starts, invariant_stops, kept_at, mapped_at, replies_so, takes_so}
 use Rattle.law_clients.specs.Fitting.{tables_are_well_typed}
 use Rattle.law_clients.specs.States.{ClientState, IsGated, IsReady, IsWaiting, doing_of, abstract_client, system_of, with_state}
 use Rattle.sdb_client.specs.Execution.{AreFresh, IsPlayable, client_after, client_stopped}
@@ -51,6 +54,15 @@ pub linked_rests : (w : WorldAt) (e : Event) → IsSilent (relocated_event (λ n
 linked_rests w e silent g =
     subst (λ (es : List Event). RunInvariant w.script.catalog (tables_are_well_typed w.script.catalog) es (system_of (states_of w.client_slots)) (doing_of (states_of w.client_slots))) (sym (on_one_more w.events e))
     (invariant_rests w.script.catalog (tables_are_well_typed w.script.catalog) (on_one w.events) (system_of (states_of w.client_slots)) (doing_of (states_of w.client_slots)) (relocated_event (λ ns. one_name) e) silent g)
+
+-- where a call was delayed is no matter
+delayed_on_one : (es : List Event) (q : Request) → HasDelayed es q → HasDelayed (on_one es) q
+delayed_on_one es q h = record { client = h.client; store = one_name; answered = h.answered; call = among_map (relocated_event (λ ns. one_name)) es (event.Call h.client h.store q Delayed reply.Fault h.answered) h.call }
+
+pub linked_lands : (w : WorldAt) (number : ℕ) (store : Name) (q : Request) (how : How) (r : Reply) → HasDelayed w.events q → IsLinked w → IsLinked (with_event w (event.Land number store q how r))
+linked_lands w number store q how r was g =
+    subst (λ (es : List Event). RunInvariant w.script.catalog (tables_are_well_typed w.script.catalog) es (system_of (states_of w.client_slots)) (doing_of (states_of w.client_slots))) (sym (on_one_more w.events (event.Land number store q how r)))
+    (invariant_lands w.script.catalog (tables_are_well_typed w.script.catalog) (on_one w.events) (system_of (states_of w.client_slots)) (doing_of (states_of w.client_slots)) (relocated_event (λ ns. one_name) (event.Land number store q how r)) (delayed_on_one w.events q was) g)
 
 ---- a client's own
 
@@ -99,6 +111,7 @@ free_doing catalog fit events sys doing other c stopped same g = record {
   stories = g.stories;
   clients = λ e. by e (e == c) refl;
   as_read = g.as_read;
+  agrees = g.agrees;
 }
   where
     by : (e : ℕ) (b : Bool) → (e == c) ≡ b → ClientInvariant catalog fit g.plan g.past e (other e) (sys.clients e) (g.answered e) (g.ran e)

@@ -1,8 +1,10 @@
 -- What is so of each item of lists.
-use Rattle.std.proofs.Common.{◌≡◌, ℕ, zero, suc, Bool, true, false, cond, List, [], ◌∷◌, ◌++◌, map, filter, take, drop, find, slice_get, Option, Some, None, IfSome, subst}
+use Rattle.std.proofs.Common.{◌≡◌, inl, inr, ℕ, zero, suc, ◌<◌, Bool, true, false, cond, List, [], ◌∷◌, ◌++◌, map, filter, take, drop, find, slice_get, Option, Some, None, IfSome, ap, subst, arith}
+use Rattle.std.specs.Prelude.{Contains}
+use Rattle.std.proofs.lemmas.List.Elements.{Contains-append_left, Contains-append_right, Contains-push}
 use Rattle.std.specs.List.{AllByRecursion, cons_option, filter_map}
 use Rattle.std.specs.Option.{option_map}
-use Rattle.sdb_types.proofs.Public.{append_all, some_is}
+use Rattle.sdb_types.proofs.Public.{append_all, one_of, some_is}
 pub use Rattle.law_clients.proofs.Public.{drop_all, filter_all, map_all, take_all}
 
 -- an item more, if there is one
@@ -40,3 +42,11 @@ option_so P Q f (Some x) g h = g x h
 
 pub is_so : {A : Type 0} (P : A → Type 0) (x y : A) → P x → Some x ≡ Some y → P y
 is_so P x y h e = subst P (some_is x y e) h
+
+-- an item among those that were mapped
+pub among_map : {A B : Type 0} (f : A → B) (xs : List A) (x : A) → Contains xs x → Contains (map f xs) (f x)
+among_map f [] x h = absurd (let low : h.0 < 0 = h.1 in omega (arith, low))
+among_map f (y ∷ ys) x h = elim (one_of y x ys h) [
+  | inl same ↦ subst (Contains (f y ∷ map f ys)) (ap f same) (Contains-append_left (f y ∷ []) (map f ys) (f y) (Contains-push [] (f y)))
+  | inr later ↦ Contains-append_right (f y ∷ []) (map f ys) (f x) (among_map f ys x later)
+]

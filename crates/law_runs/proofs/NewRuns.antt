@@ -86,6 +86,7 @@ module _ (w : WorldAt) (h : Holds w) (all : AllRun w) (so : AllSo NothingMore Wa
   step_new (event.Stop c) u t n = others_new (event.Stop c) n (executed_more n w.events (event.Stop c))
   step_new (event.Clock m) u t n = others_new (event.Clock m) n (executed_more n w.events (event.Clock m))
   step_new (event.Idle d) u t n = others_new (event.Idle d) n (executed_more n w.events (event.Idle d))
+  step_new (event.Land x store q how r) u t n = others_new (event.Land x store q how r) n (executed_more n w.events (event.Land x store q how r))
   step_new (event.Call c store q how r a) u t n = by_nat c n (λ same. subst (λ (x : ℕ). AllNew (w.events ++ event.Call c store q how r a ∷ []) x (answered_of x (w.events ++ event.Call c store q how r a ∷ []))) same (by a refl)) (λ apart. others_new (event.Call c store q how r a) n (others_silent w.events n c (event.Call c store q how r a) apart refl))
     where
       next_state : states_of w.client_slots c ≡ record { client = t.client_slot.client; stopped = t.client_slot.stopped }
@@ -110,7 +111,7 @@ module _ (w : WorldAt) (h : Holds w) (all : AllRun w) (so : AllSo NothingMore Wa
 
 ---- a whole execution
 
-path_new : (es : List Event) (w : WorldAt) (t : State) → IsPath w.script (state_of w) es t → Holds w → AllSo NothingMore WaitPrepares w → AllRun w → AllSo NothingMore WaitNew w → AllReadNew w → AllReadNew (record { script = w.script; client_slots = t.client_slots; events = w.events ++ es; clock = t.clock })
+path_new : (es : List Event) (w : WorldAt) (t : State) → IsPath w.script (state_of w) es t → Holds w → AllSo NothingMore WaitPrepares w → AllRun w → AllSo NothingMore WaitNew w → AllReadNew w → AllReadNew (record { script = w.script; client_slots = t.client_slots; flights = t.flights; events = w.events ++ es; clock = t.clock })
 path_new [] w t h k prepared all so new = subst (λ (xs : List Event). (c : ℕ) → AllNew xs c (answered_of c xs)) (sym (append-nil w.events)) new
 path_new (e ∷ es) w t h k prepared all so new =
     subst (λ (xs : List Event). (c : ℕ) → AllNew xs c (answered_of c xs)) (append_assoc w.events (e ∷ []) es)
@@ -159,9 +160,9 @@ running_open : (events : List Event) (c : ℕ) (before : List Executed) → AllB
 running_open events c before opens = ap (λ xs. filter is_answered (filter (takes_part events c) xs)) (ap (take_while goes_on) (sym (append-nil before)) ∙ take_open before [] opens ∙ append-nil before)
 
 module _ (script : Script) (events : List Event) (playable : IsPlayable script) (x : IsExecution script events) where
-  all_new : AllReadNew (record { script = script; client_slots = x.last.client_slots; events = events; clock = x.last.clock })
+  all_new : AllReadNew (record { script = script; client_slots = x.last.client_slots; flights = x.last.flights; events = events; clock = x.last.clock })
   all_new =
-      path_new events (record { script = script; client_slots = x.first.client_slots; events = []; clock = x.first.clock }) x.last x.path (first_holds script x.first playable x.initial) (λ c s has. none_in s has)
+      path_new events (record { script = script; client_slots = x.first.client_slots; flights = x.first.flights; events = []; clock = x.first.clock }) x.last x.path (first_holds script x.first playable x.initial) (λ c s has. none_in s has)
       (first_runs script x.first.client_slots (length script.clients) x.initial.fresh) (λ c s has. none_in s has) first_new
 
   module _ (c : ℕ) where
@@ -176,7 +177,7 @@ module _ (script : Script) (events : List Event) (playable : IsPlayable script) 
     waiting_new w waiting waits opened = by_vacuum h.vacuum (subst (λ (o : Option Executed). ClientByHistory events c h.begun k.entries o h.plan h.txn h.vacuum) waiting k.agrees)
       where
         so : TxnNew h.txn (calls_of events c w)
-        so = wait_new (record { script = script; client_slots = x.last.client_slots; events = events; clock = x.last.clock }) (statements_so NothingMore WaitNew new_kept script events playable x) c h refl k w waiting waits
+        so = wait_new (record { script = script; client_slots = x.last.client_slots; flights = x.last.flights; events = events; clock = x.last.clock }) (statements_so NothingMore WaitNew new_kept script events playable x) c h refl k w waiting waits
 
         sees : IfSome h.txn (SeesRun script.catalog events c (running_of events c h.begun k.entries))
         sees = subst (λ ss. IfSome h.txn (SeesRun script.catalog events c (running_of events c h.begun ss))) (answered_of_is script.catalog events c h k) (all_run script events playable x c).sees

@@ -13,13 +13,15 @@ use Rattle.sdb_record.specs.Parts.{before_part, before_record, record_with}
 use Rattle.sdb_record.proofs.Public.{forward-key, prepared-key, row-key}
 use Rattle.sdb_record.specs.Rolls.{undo}
 use Rattle.sdb_model.specs.declared.event.Event.TheVariants as event
+use Rattle.sdb_model.specs.declared.event.How.TheVariants.{Delayed}
+use Rattle.sdb_types.specs.declared.record.Reply.TheVariants as reply
 use Rattle.sdb_model.specs.Events.{Effect, StoreContents, stored_at}
 use Rattle.sdb_model.specs.ReadSet.{KeyRead, ReadItem, SpanRead}
 use Rattle.law_protocol.specs.History.{Action, Other, Begins, Takes, Prepares, Checks, Decides, Aborts, Rolls, Removes, Ends, Stops, History, ProtocolState}
-use Rattle.law_protocol.specs.Lawful.{IsCallOf, IsLawful, IsUnchanged, IsEnabled, MayRoll, Labelled, id, is_quiet}
+use Rattle.law_protocol.specs.Lawful.{IsCallOf, IsLawful, IsUnchanged, IsEnabled, MayOccur, MayRoll, Labelled, WasDelayed, id, is_quiet}
 use Rattle.law_protocol.specs.Plan.{Plan}
 use Rattle.law_protocol.specs.Trace.{IsTraced, StartsEmpty, closing, history}
-use Rattle.law_protocol.proofs.Public.{after_delete, after_put, at_call, AtCall, held_key, Knows, prepared_there, accepted_fits, whole, write_key}
+use Rattle.law_protocol.proofs.Public.{after_delete, after_put, at_call, AtCall, held_key, Knows, prepared_there, accepted_fits, occurs_by, whole, write_key}
 use Rattle.sdb_model.specs.Tables.{is_data}
 
 -- the key of a transaction's row
@@ -42,6 +44,7 @@ PutsAt (event.Call client store q how r answer) k = PutsBy q k
 PutsAt (event.Stop client) k = ⊥
 PutsAt (event.Clock moment) k = ⊥
 PutsAt (event.Idle client) k = ⊥
+PutsAt (event.Land number store q how r) k = PutsBy q k
 
 left_or_put : (q : Request) (m : Contents) (k : Key) (row : Record) → record_at (after q m) k ≡ Some row → (record_at m k ≡ Some row) ⊎ PutsBy q k
 left_or_put (ask.Get key) m k row h = inl h
@@ -74,6 +77,7 @@ stood_or_put places (event.Call client store q how r answer) before now k row c 
 stood_or_put places (event.Stop client) before now k row same h = inl (ap (λ s. stored_at places s k) (sym same) ∙ h)
 stood_or_put places (event.Clock moment) before now k row same h = inl (ap (λ s. stored_at places s k) (sym same) ∙ h)
 stood_or_put places (event.Idle client) before now k row same h = inl (ap (λ s. stored_at places s k) (sym same) ∙ h)
+stood_or_put places (event.Land number store q how r) before now k row c h = call_left_or_put places q r before now k row (at_call places store q how r before now c) h
 
 ---- where an event puts
 
@@ -95,6 +99,7 @@ quiet_puts_none (event.Call client store (ask.DeleteIf key c) how r answer) k qu
 quiet_puts_none (event.Stop client) k quiet put = put
 quiet_puts_none (event.Clock moment) k quiet put = put
 quiet_puts_none (event.Idle client) k quiet put = put
+quiet_puts_none (event.Land number store q how r) k quiet put = absurd (cc (quiet))
 
 check_puts_none : (plan : Plan) (item : ReadItem) (q : Request) (r : Reply) (k : Key) → IsUnchanged plan item q r → PutsBy q k → ⊥
 check_puts_none plan (KeyRead read) q r k same put = subst (λ x. PutsBy x k) same.1 put
@@ -150,6 +155,14 @@ puts_row plan w past e (Stops c) q knows m row put = absurd (subst (λ x. PutsAt
 
 ---- every event
 
+-- What a delayed call was to put is at the key of a transaction's row, where that is of the coordinator's table.
+delayed_row : (plan : ℕ → Plan) (places : List Place) (opening : List StoreContents) (past : List Labelled) (ss : List (List StoreContents)) (q : Request) (action : Action) (k : Key) → StartsEmpty places opening → IsLawful plan past → IsTraced places opening past ss → WasDelayed past q action → is_data k ≡ false → PutsBy q k → IsRowKey k
+delayed_row plan places opening [] ss q action k empty l t was outside put = absurd was
+delayed_row plan places opening (p ∷ past) [] q action k empty l t was outside put = absurd t
+delayed_row plan places opening (p ∷ past) (s ∷ ss) q action k empty l t (inl d) outside put =
+    puts_row plan (history plan places opening past ss) past (event.Call d.client d.store q Delayed reply.Fault d.answer) p.action k (whole plan places opening past ss empty l.0 t.0).knows (subst (λ (e : Event). MayOccur plan past e p.action) d.call l.1) outside put
+delayed_row plan places opening (p ∷ past) (s ∷ ss) q action k empty l t (inr was) outside put = delayed_row plan places opening past ss q action k empty l.0 t.0 was outside put
+
 -- After a lawful list of events from empty stores, each record of the coordinator's table is at the key of a transaction's row.
 pub only_rows : (plan : ℕ → Plan) (places : List Place) (opening : List StoreContents) (past : List Labelled) (ss : List (List StoreContents)) (k : Key) (row : Record) → StartsEmpty places opening → IsLawful plan past → IsTraced places opening past ss → is_data k ≡ false → stored_at places (closing opening ss) k ≡ Some row → IsRowKey k
 only_rows plan places opening [] [] k row empty l t outside h = absurd (none (sym (empty k) ∙ h))
@@ -160,5 +173,8 @@ only_rows plan places opening [] (s ∷ ss) k row empty l t outside h = absurd t
 only_rows plan places opening (p ∷ past) [] k row empty l t outside h = absurd t
 only_rows plan places opening (p ∷ past) (s ∷ ss) k row empty l t outside h = elim (stood_or_put places p.event (closing opening ss) s k row t.1 h) [
   | inl stood ↦ only_rows plan places opening past ss k row empty l.0 t.0 outside stood
-  | inr put ↦ puts_row plan (history plan places opening past ss) past p.event p.action k (whole plan places opening past ss empty l.0 t.0).knows l.1 outside put
+  | inr put ↦ elim (occurs_by plan past p.event p.action l.1) [
+    | inl m ↦ puts_row plan (history plan places opening past ss) past p.event p.action k (whole plan places opening past ss empty l.0 t.0).knows m outside put
+    | inr x ↦ delayed_row plan places opening past ss x.request p.action k empty l.0 t.0 x.was outside (subst (λ (e : Event). PutsAt e k) x.land put)
+  ]
 ]

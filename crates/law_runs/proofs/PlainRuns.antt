@@ -111,6 +111,7 @@ event_none (event.Call c store q how r a) h = (request_none q h.0, reply_none r 
 event_none (event.Stop c) h = tt
 event_none (event.Clock m) h = tt
 event_none (event.Idle c) h = tt
+event_none (event.Land n store q how r) h = (request_none q h.0, reply_none r h.1)
 
 events_none : (es : List Event) → AllByRecursion EventClear es → AllByRecursion EventHasNoLf es
 events_none [] h = tt
@@ -153,6 +154,7 @@ parts_plain (event.Call c store q how r a) fits h = (fits.0, fits.1, fits.2, fit
 parts_plain (event.Stop c) fits h = fits
 parts_plain (event.Clock m) fits h = fits
 parts_plain (event.Idle c) fits h = fits
+parts_plain (event.Land n store q how r) fits h = (fits.0, fits.1, fits.2, fits.3, h.2)
 
 event_plain : (e : Event) → event_fits e → EventClear e → IsPlainEvent e
 event_plain e fits h = let parts = parts_plain e fits h in record { parts = parts; one_line = event_one e parts (event_none e h) }

@@ -4,7 +4,7 @@ use Rattle.law_runs.specs.Types.{Event, Place, Statement, Table}
 use Rattle.sdb_model.specs.Events.{IsTrace, StoreContents}
 use Rattle.sdb_model.specs.Exec.{Tables}
 use Rattle.law_protocol.specs.Explained.{IsRunOf, events_of, newest_first}
-use Rattle.law_protocol.specs.Faithful.{AreReadSets, IsFaithful}
+use Rattle.law_protocol.specs.Faithful.{AgreesOnOpen, AreReadSets, IsFaithful}
 use Rattle.law_protocol.specs.Lawful.{IsLawful, Labelled}
 use Rattle.law_protocol.specs.Plan.{Plan}
 use Rattle.law_protocol.specs.Trace.{IsTraced, StartsEmpty, closing}
@@ -14,7 +14,8 @@ use Rattle.law_clients.specs.History.{AllStories}
 use Rattle.law_clients.proofs.Public.{clients_faithful, invariant_is_read_sets}
 use Rattle.law_clients.specs.Invariant.{RunInvariant}
 
--- The parts of the events, which with these moments are a run of the laws. The plans' notes are what the statements noted.
+-- The parts of the events, which with these moments are a run of the laws. The plans' read sets are what the statements read, and the actions
+-- agree with the texts about who is open.
 pub record IsLawfulRun (places : List Place) (events : List Event) (opening : List StoreContents) (moments : List (List StoreContents)) : Type 0 where
   pub plan : ℕ → Plan
   pub labelled : List Labelled
@@ -22,6 +23,7 @@ pub record IsLawfulRun (places : List Place) (events : List Event) (opening : Li
   pub run : IsRunOf plan places opening (newest_first labelled) (newest_first moments)
   pub faithful : IsFaithful (events_of labelled) (newest_first labelled)
   pub as_read : AreReadSets plan (events_of labelled) (newest_first labelled)
+  pub agrees : AgreesOnOpen labelled
 
 -- the trace, newest first
 turned : (catalog : List Table) (fit : Tables → Bool) (events : List Event) (sys : SystemAt) (doing : ℕ → Option Statement) (places : List Place) (opening end : List StoreContents) (moments : List (List StoreContents)) → (g : RunInvariant catalog fit events sys doing) → IsTrace places events opening moments end
@@ -38,6 +40,7 @@ lawful_run catalog fit events sys doing places opening end moments g trace empty
       (subst (λ ps. SystemOk g.plan ps sys) g.turned g.system)
       (subst (λ ps. AllStories (events_of g.labelled) ps sys g.answered) g.turned (subst (λ es. AllStories es g.past sys g.answered) g.same g.stories));
   as_read = subst (λ ps. AreReadSets g.plan (events_of g.labelled) ps) g.turned (subst (λ es. AreReadSets g.plan es g.past) g.same (invariant_is_read_sets catalog fit events sys doing g));
+  agrees = g.agrees;
 }
 
 -- The parts of the events, and what the stores held, newest first.

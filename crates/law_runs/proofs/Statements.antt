@@ -17,7 +17,7 @@ use Rattle.law_clients.specs.History.{executed_with_answer, executed_of_take, wa
 use Rattle.law_clients.proofs.Public.{others_silent, executed_more, take_executed}
 use Rattle.law_answers.specs.Invariant.{IsAnswered, IsWaiting, Knows}
 use Rattle.law_answers.proofs.Public.{call_executed, calls_open, calls_stay, calls_wait, clock_same, commit_stays, each_in, end_answered, end_waiting, Grows, later_calls, later_more, made_at, own_made, silent_executed}
-use Rattle.sdb_client.specs.Execution.{CallStep, IsExecution, IsPath, IsPlayable, IsStepFrom, State, TakeStep, client_after, client_stopped}
+use Rattle.sdb_client.specs.Execution.{CallStep, IsExecution, IsPath, IsPlayable, IsStepFrom, State, TakeStep, client_after, client_stopped, flights_after}
 use Rattle.law_runs.specs.World.{WorldAt, state_in, states_of, state_of, with_event, with_client}
 use Rattle.law_runs.proofs.Kept.{by_nat}
 use Rattle.law_runs.proofs.Replies.{idle_rests, pends_waits}
@@ -63,7 +63,7 @@ pub record AreKept (A : List Table → List Event → ℕ → Executed → Type 
   pub answered : (catalog : List Table) (events : List Event) (e : Event) (c : ℕ) (s : Executed) → IsPast events e c s → A catalog events c s → A catalog (events ++ e ∷ []) c s
   pub waiting : (catalog : List Table) (events : List Event) (e : Event) (c : ℕ) (s : Executed) (h : ClientAt) → IsStill events e c s → W catalog events c s h → W catalog (events ++ e ∷ []) c s h
   pub takes : (w : WorldAt) (u : State) (c : ℕ) (text : List ℕ) (a : Option Answer) (t : TakeStep w.script (state_of w) c text a u) → Holds w → SoOver A W w.script.catalog (w.events ++ event.Take c text a ∷ []) c (executed_of_take w.events text a) t.client a
-  pub calls : (w : WorldAt) (u : State) (c : ℕ) (store : Name) (q : Request) (how : How) (r : Reply) (a : Option Answer) (t : CallStep (state_of w) c q r a u) → Holds w → (k : Knows w.script.catalog w.events c t.client_slot.client) (x : Executed) → k.waiting ≡ Some x → IsWaiting w.script.catalog w.events c (is_some t.client_slot.client.vacuum) x → W w.script.catalog w.events c x t.client_slot.client
+  pub calls : (w : WorldAt) (u : State) (c : ℕ) (store : Name) (q : Request) (how : How) (r : Reply) (a : Option Answer) (t : CallStep (state_of w) c q how r a u) → Holds w → (k : Knows w.script.catalog w.events c t.client_slot.client) (x : Executed) → k.waiting ≡ Some x → IsWaiting w.script.catalog w.events c (is_some t.client_slot.client.vacuum) x → W w.script.catalog w.events c x t.client_slot.client
       → SoOver A W w.script.catalog (w.events ++ event.Call c store q how r a ∷ []) c (replied_said w.events x a) t.client a
 
 ---- what is known of a client's statements
@@ -224,8 +224,8 @@ module _ (A : List Table → List Event → ℕ → Executed → Type 0) (W : Li
       (others A W kept w.script.catalog w.events e c (states_of w.client_slots c).client (h.caused.each c) (says c apart) (makes c apart) (so c) x has))
 
   -- no client moves
-  rests_so : (w : WorldAt) (client_slots : List ClientSlot) (now : ℤ) (e : Event) → client_slots ≡ w.client_slots → Holds w → AllSo A W w → ((c : ℕ) → statements_by c (w.events ++ e ∷ []) ≡ statements_by c w.events) → ((c : ℕ) → made_by c (1 + length w.events, e) ≡ None) → AllSo A W (record { script = w.script; client_slots = client_slots; events = w.events ++ e ∷ []; clock = now })
-  rests_so w client_slots now e same h so says makes =
+  rests_so : (w : WorldAt) (client_slots : List ClientSlot) (fs : List (Option Request)) (now : ℤ) (e : Event) → client_slots ≡ w.client_slots → Holds w → AllSo A W w → ((c : ℕ) → statements_by c (w.events ++ e ∷ []) ≡ statements_by c w.events) → ((c : ℕ) → made_by c (1 + length w.events, e) ≡ None) → AllSo A W (record { script = w.script; client_slots = client_slots; flights = fs; events = w.events ++ e ∷ []; clock = now })
+  rests_so w client_slots fs now e same h so says makes =
       subst (λ (ss : List ClientSlot). (c : ℕ) (x : Executed) → Contains (statements_by c (w.events ++ e ∷ [])) x → SoOver A W w.script.catalog (w.events ++ e ∷ []) c x (states_of ss c).client x.answer) (sym same)
       (λ c x has. others A W kept w.script.catalog w.events e c (states_of w.client_slots c).client (h.caused.each c) (says c) (makes c) (so c) x has)
 
@@ -233,7 +233,7 @@ module _ (A : List Table → List Event → ℕ → Executed → Type 0) (W : Li
   step_so w (event.Take c text a) u t h so =
       let i : ℕ = t.place in
       let k : Knows w.script.catalog w.events (suc i) t.client_slot.client = at_hand (Knows w.script.catalog w.events (suc i)) w.client_slots i t.client_slot t.at (h.caused.each (suc i)) in
-      at_place (AllSo A W) w (λ n. event.Take n text a) c i (client_after t.client_slot 1 t.client) u t.number t.left
+      at_place (AllSo A W) w (λ n. event.Take n text a) c i (client_after t.client_slot 1 t.client) w.flights u t.number t.left
       (moves_so w i t.client_slot (client_after t.client_slot 1 t.client) (event.Take (suc i) text a) t.at h so
       (λ n apart. others_silent w.events n (suc i) (event.Take (suc i) text a) apart refl) (λ n apart. refl)
       (own_take A W kept w.script.catalog w.events (suc i) t.client_slot.client t.client text a k (idle_rests w.script.catalog w.events (suc i) t.client_slot.client k t.idle)
@@ -245,7 +245,7 @@ module _ (A : List Table → List Event → ℕ → Executed → Type 0) (W : Li
       let x = pends_waits w.script.catalog w.events (suc i) t.client_slot.client q k t.pending in
       let waits = waits_of w.script.catalog w.events (suc i) t.client_slot.client k x.0 x.1 in
       let here : (y : Executed) → Contains (statements_by (suc i) w.events) y → SoOver A W w.script.catalog w.events (suc i) y t.client_slot.client y.answer = λ y has. at_hand (λ (d : ClientAt). SoOver A W w.script.catalog w.events (suc i) y d y.answer) w.client_slots i t.client_slot t.at (so (suc i) y has) in
-      at_place (AllSo A W) w (λ n. event.Call n store q how r a) c i (client_after t.client_slot 0 t.client) u t.number t.left
+      at_place (AllSo A W) w (λ n. event.Call n store q how r a) c i (client_after t.client_slot 0 t.client) (flights_after w.flights how q) u t.number t.left
       (moves_so w i t.client_slot (client_after t.client_slot 0 t.client) (event.Call (suc i) store q how r a) t.at h so
       (λ n apart. others_silent w.events n (suc i) (event.Call (suc i) store q how r a) apart refl) (λ n apart. apart_made n (suc i) (1 + length w.events) store q how r a apart)
       (own_call A W kept w.script.catalog w.events (suc i) t.client_slot.client t.client store q how r a k x.0 x.1 waits here (at_number w u c store q how r a t h i t.number k x.0 x.1 waits (waiting_so i k x.0 x.1 waits here))))
@@ -255,29 +255,30 @@ module _ (A : List Table → List Event → ℕ → Executed → Type 0) (W : Li
           subst (λ (o : Option Answer). SoOver A W w.script.catalog w.events (suc i) x t.client_slot.client o) waits.unanswered
           (here x (subst (λ (ss : List Executed). Contains ss x) (sym (k.same ∙ ap (λ (o : Option Executed). k.entries ++ waiting_of o) waiting)) (Contains-push k.entries x)))
 
-      at_number : (w : WorldAt) (u : State) (c : ℕ) (store : Name) (q : Request) (how : How) (r : Reply) (a : Option Answer) (t : CallStep (state_of w) c q r a u) → Holds w → (i : ℕ) → c ≡ suc i → (k : Knows w.script.catalog w.events (suc i) t.client_slot.client) (x : Executed) → k.waiting ≡ Some x → IsWaiting w.script.catalog w.events (suc i) (is_some t.client_slot.client.vacuum) x → W w.script.catalog w.events (suc i) x t.client_slot.client
+      at_number : (w : WorldAt) (u : State) (c : ℕ) (store : Name) (q : Request) (how : How) (r : Reply) (a : Option Answer) (t : CallStep (state_of w) c q how r a u) → Holds w → (i : ℕ) → c ≡ suc i → (k : Knows w.script.catalog w.events (suc i) t.client_slot.client) (x : Executed) → k.waiting ≡ Some x → IsWaiting w.script.catalog w.events (suc i) (is_some t.client_slot.client.vacuum) x → W w.script.catalog w.events (suc i) x t.client_slot.client
           → SoOver A W w.script.catalog (w.events ++ event.Call (suc i) store q how r a ∷ []) (suc i) (replied_said w.events x a) t.client a
       at_number w u c store q how r a t h i number =
           subst (λ (n : ℕ). (k : Knows w.script.catalog w.events n t.client_slot.client) (x : Executed) → k.waiting ≡ Some x → IsWaiting w.script.catalog w.events n (is_some t.client_slot.client.vacuum) x → W w.script.catalog w.events n x t.client_slot.client → SoOver A W w.script.catalog (w.events ++ event.Call n store q how r a ∷ []) n (replied_said w.events x a) t.client a) number
           (λ k x waiting waits so. kept.calls w u c store q how r a t h k x waiting waits so)
   step_so w (event.Stop c) u t h so =
-      at_place (AllSo A W) w (λ n. event.Stop n) c t.place (client_stopped t.client_slot) u t.number t.left
+      at_place (AllSo A W) w (λ n. event.Stop n) c t.place (client_stopped t.client_slot) w.flights u t.number t.left
       (moves_so w t.place t.client_slot (client_stopped t.client_slot) (event.Stop (suc t.place)) t.at h so (λ n apart. executed_more n w.events (event.Stop (suc t.place))) (λ n apart. refl)
       (others A W kept w.script.catalog w.events (event.Stop (suc t.place)) (suc t.place) t.client_slot.client (at_hand (Knows w.script.catalog w.events (suc t.place)) w.client_slots t.place t.client_slot t.at (h.caused.each (suc t.place))) (executed_more (suc t.place) w.events (event.Stop (suc t.place))) refl
       (λ x has. at_hand (λ (d : ClientAt). SoOver A W w.script.catalog w.events (suc t.place) x d x.answer) w.client_slots t.place t.client_slot t.at (so (suc t.place) x has))))
-  step_so w (event.Clock m) u t h so = rests_so w u.client_slots u.clock (event.Clock m) (ap (λ (x : State). x.client_slots) t.1) h so (λ c. executed_more c w.events (event.Clock m)) (λ c. refl)
-  step_so w (event.Idle d) u t h so = rests_so w u.client_slots u.clock (event.Idle d) (ap (λ (x : State). x.client_slots) t) h so (λ c. executed_more c w.events (event.Idle d)) (λ c. refl)
+  step_so w (event.Clock m) u t h so = rests_so w u.client_slots u.flights u.clock (event.Clock m) (ap (λ (x : State). x.client_slots) t.1) h so (λ c. executed_more c w.events (event.Clock m)) (λ c. refl)
+  step_so w (event.Idle d) u t h so = rests_so w u.client_slots u.flights u.clock (event.Idle d) (ap (λ (x : State). x.client_slots) t) h so (λ c. executed_more c w.events (event.Idle d)) (λ c. refl)
+  step_so w (event.Land n store q how r) u t h so = rests_so w u.client_slots u.flights u.clock (event.Land n store q how r) (ap (λ (x : State). x.client_slots) t.left) h so (λ c. executed_more c w.events (event.Land n store q how r)) (λ c. refl)
 
-  path_so : (es : List Event) (w : WorldAt) (t : State) → IsPath w.script (state_of w) es t → Holds w → AllSo A W w → AllSo A W (record { script = w.script; client_slots = t.client_slots; events = w.events ++ es; clock = t.clock })
+  path_so : (es : List Event) (w : WorldAt) (t : State) → IsPath w.script (state_of w) es t → Holds w → AllSo A W w → AllSo A W (record { script = w.script; client_slots = t.client_slots; flights = t.flights; events = w.events ++ es; clock = t.clock })
   path_so [] w t h k so =
-      subst (λ (x : State). AllSo A W (record { script = w.script; client_slots = x.client_slots; events = w.events ++ []; clock = x.clock })) (sym h)
-      (subst (λ (xs : List Event). AllSo A W (record { script = w.script; client_slots = w.client_slots; events = xs; clock = w.clock })) (sym (append-nil w.events)) so)
+      subst (λ (x : State). AllSo A W (record { script = w.script; client_slots = x.client_slots; flights = x.flights; events = w.events ++ []; clock = x.clock })) (sym h)
+      (subst (λ (xs : List Event). AllSo A W (record { script = w.script; client_slots = w.client_slots; flights = w.flights; events = xs; clock = w.clock })) (sym (append-nil w.events)) so)
   path_so (e ∷ es) w t h k so =
-      subst (λ (xs : List Event). AllSo A W (record { script = w.script; client_slots = t.client_slots; events = xs; clock = t.clock })) (append_assoc w.events (e ∷ []) es)
+      subst (λ (xs : List Event). AllSo A W (record { script = w.script; client_slots = t.client_slots; flights = t.flights; events = xs; clock = t.clock })) (append_assoc w.events (e ∷ []) es)
       (path_so es (led w e h.0) t h.2 (step_holds w e h.0 h.1 k) (step_so w e h.0 h.1 k so))
 
   -- Before any event a client has no statement, so it is so of each statement of an execution.
-  pub statements_so : (script : Script) (events : List Event) → IsPlayable script → (x : IsExecution script events) → AllSo A W (record { script = script; client_slots = x.last.client_slots; events = events; clock = x.last.clock })
+  pub statements_so : (script : Script) (events : List Event) → IsPlayable script → (x : IsExecution script events) → AllSo A W (record { script = script; client_slots = x.last.client_slots; flights = x.last.flights; events = events; clock = x.last.clock })
   statements_so script events playable x =
-      path_so events (record { script = script; client_slots = x.first.client_slots; events = []; clock = x.first.clock }) x.last x.path (first_holds script x.first playable x.initial)
+      path_so events (record { script = script; client_slots = x.first.client_slots; flights = x.first.flights; events = []; clock = x.first.clock }) x.last x.path (first_holds script x.first playable x.initial)
       (λ c s has. none_in s has)

@@ -1,11 +1,15 @@
 -- What is so of the clients and the events of an execution is kept by each of its steps.
 use Rattle.std.proofs.Common.{◌≡◌, ℕ, suc, ℤ, ◌<◌, ◌^◌, false, List, [], ◌∷◌, ◌++◌, length, Option, Some, None, IfSome, refl, sym, subst, arith, append_assoc}
 use Rattle.std.specs.Prelude.{◌-◌, slice_get}
+use Rattle.std.proofs.Common.{slice_set}
 use Rattle.std.proofs.lemmas.List.{append-nil}
 use Rattle.std.proofs.lemmas.Option.{slice_get_within}
-use Rattle.law_runs.specs.Types.{ClientSlot, Doing, Event, Request, Script, Table}
+use Rattle.law_runs.specs.Types.{Answer, ClientSlot, Doing, Event, How, Reply, Request, Script, Table}
 use Rattle.sdb_model.specs.declared.event.Event.TheVariants as event
-use Rattle.law_protocol.specs.Spread.{AreAbout}
+use Rattle.sdb_types.specs.declared.record.Reply.TheVariants as reply
+use Rattle.sdb_model.specs.declared.event.How.TheVariants.{Seen, Lost, Discarded, Delayed, Broken}
+use Rattle.sdb_model.specs.Rows.{Name}
+use Rattle.law_protocol.specs.Spread.{AreAbout, IsAbout}
 use Rattle.sdb_client.specs.Client.{ClientAt, IsIdle, Taking, client_pending, next_id}
 use Rattle.sdb_txn.specs.declared.txn.Doing.TheVariants as doing
 use Rattle.sdb_txn.specs.Txn.{TxnAt}
@@ -15,26 +19,39 @@ use Rattle.law_clients.specs.Fitting.{tables_are_well_typed}
 use Rattle.law_clients.specs.States.{ClientState, IsFitted, IsFittedBy, IsReady, IsUsing, IsUsingTxn, IsWaiting, doing_of, system_of}
 use Rattle.law_clients.proofs.Public.{asks_in, replies_fitted, replies_in, takes_fitted, takes_in}
 use Rattle.law_answers.specs.Invariant.{AnswersHaveCauses}
-use Rattle.sdb_client.specs.Execution.{IsExecution, IsInitial, IsPath, IsPlayable, IsReachedBy, IsStepFrom, State, client_after, client_stopped, with_client_at}
-use Rattle.law_runs.specs.World.{IsClientState, IsWorld, WorldAt, states_of, state_of, with_event, with_client}
+use Rattle.sdb_client.specs.Execution.{IsExecution, IsInitial, IsPath, IsPlayable, IsReachedBy, IsStepFrom, LandStep, State, client_after, client_stopped, flights_after, with_client_at, with_flights}
+use Rattle.law_runs.specs.World.{AreInFlight, IsClientState, IsWorld, WorldAt, states_of, state_of, with_client, with_event, with_late}
 use Rattle.law_runs.specs.Linked.{HaveCauses, IsLinked, on_one}
-use Rattle.law_runs.proofs.Ties.{call_apart, clock_apart, idle_apart, stop_apart, take_apart}
+use Rattle.law_runs.proofs.Flights.{IsTimely, delayed_about, late_goes, late_lands, late_stays}
+use Rattle.law_runs.proofs.Ties.{call_apart, clock_apart, idle_apart, land_apart, stop_apart, take_apart}
 use Rattle.law_runs.proofs.Kept.{seat_calls, seat_stops, seat_takes, world_moves, world_stays, world_ticks}
-use Rattle.law_runs.proofs.Linked.{linked_calls, linked_first, linked_rests, linked_stops, linked_takes, on_hand}
-use Rattle.law_runs.proofs.Causing.{caused_calls, caused_idles, caused_new, caused_stops, caused_takes, caused_ticks, gated_by, outcome_caused}
+use Rattle.law_runs.proofs.Linked.{linked_calls, linked_first, linked_lands, linked_rests, linked_stops, linked_takes, on_hand}
+use Rattle.law_runs.proofs.Causing.{caused_calls, caused_idles, caused_lands, caused_new, caused_stops, caused_takes, caused_ticks, gated_by, outcome_caused}
 use Rattle.law_runs.proofs.First.{world_first}
 use Rattle.law_runs.proofs.Gates.{gated_at}
 use Rattle.law_runs.proofs.Slots.{suc_is}
 
 -- the events so far and one more, which leads to a state
 abbrev pub led : WorldAt → Event → State → WorldAt
-led w e u = record { script = w.script; client_slots = u.client_slots; events = w.events ++ e ∷ []; clock = u.clock }
+led w e u = record { script = w.script; client_slots = u.client_slots; flights = u.flights; events = w.events ++ e ∷ []; clock = u.clock }
 
 -- what is so where one client is elsewhere is so after its step
-pub at_place : (P : WorldAt → Type 0) (w : WorldAt) (e : ℕ → Event) (c i : ℕ) (client_slot : ClientSlot) (u : State) → c ≡ suc i → u ≡ with_client_at (state_of w) i client_slot → P (with_event (with_client w i client_slot) (e (suc i))) → P (led w (e c) u)
-at_place P w e c i client_slot u number left h =
+pub at_place : (P : WorldAt → Type 0) (w : WorldAt) (e : ℕ → Event) (c i : ℕ) (client_slot : ClientSlot) (fs : List (Option Request)) (u : State) → c ≡ suc i → u ≡ with_flights (with_client_at (state_of w) i client_slot) fs → P (with_late (with_event (with_client w i client_slot) (e (suc i))) fs) → P (led w (e c) u)
+at_place P w e c i client_slot fs u number left h =
     subst (λ (x : State). P (led w (e c) x)) (sym left)
-    (subst (λ (n : ℕ). P (led w (e n) (with_client_at (state_of w) i client_slot))) (sym number) h)
+    (subst (λ (n : ℕ). P (led w (e n) (with_flights (with_client_at (state_of w) i client_slot) fs))) (sym number) h)
+
+---- the requests in flight
+
+take_timely : (c : ℕ) (text : List ℕ) (a : Option Answer) → IsTimely (event.Take c text a)
+take_timely c text a = record { delays = refl; lands = λ k. refl }
+
+call_late : (es : List Event) (fs : List (Option Request)) (c : ℕ) (store : Name) (q : Request) (how : How) (r : Reply) (a : Option Answer) → (how ≡ Delayed → r ≡ reply.Fault) → AreInFlight es fs → AreInFlight (es ++ event.Call c store q how r a ∷ []) (flights_after fs how q)
+call_late es fs c store q Seen r a fault h = late_stays es (event.Call c store q Seen r a) fs (record { delays = refl; lands = λ k. refl }) h
+call_late es fs c store q Lost r a fault h = late_stays es (event.Call c store q Lost r a) fs (record { delays = refl; lands = λ k. refl }) h
+call_late es fs c store q Discarded r a fault h = late_stays es (event.Call c store q Discarded r a) fs (record { delays = refl; lands = λ k. refl }) h
+call_late es fs c store q Delayed r a fault h = subst (λ (x : Reply). AreInFlight (es ++ event.Call c store q Delayed x a ∷ []) (fs ++ Some q ∷ [])) (sym (fault refl)) (late_goes es c store q a fs h)
+call_late es fs c store q Broken r a fault h = late_stays es (event.Call c store q Broken r a) fs (record { delays = refl; lands = λ k. refl }) h
 
 ---- the client at work
 
@@ -72,6 +89,15 @@ is_waiting w i s q h here goes pending = record {
 
 ---- one step
 
+land_late : (w : WorldAt) (number : ℕ) (store : Name) (q : Request) (how : How) (r : Reply) (u : State) (t : LandStep (state_of w) number q how r u) → IsWorld w → AreInFlight (w.events ++ event.Land number store q how r ∷ []) (slice_set w.flights t.place None)
+land_late w number store q how r u t h =
+    subst (λ (n : ℕ). AreInFlight (w.events ++ event.Land n store q how r ∷ []) (slice_set w.flights t.place None)) (sym t.number_is)
+    (late_lands w.events w.flights t.place store q how r t.at h.late)
+
+-- what lands is about the table that the delayed call was about
+land_about : (w : WorldAt) (number : ℕ) (store : Name) (q : Request) (how : How) (r : Reply) (u : State) (t : LandStep (state_of w) number q how r u) → IsWorld w → IsAbout w.script.catalog (event.Land number store q how r)
+land_about w number store q how r u t h = delayed_about w.script.catalog w.events t.place q (h.late.late t.place q t.at).0 h.about
+
 -- Each client stays where the events leave it.
 pub step_world : (w : WorldAt) (e : Event) (u : State) → IsStepFrom w.script (state_of w) e u → IsWorld w → IsWorld (led w e u)
 step_world w (event.Take c text a) u t h =
@@ -81,23 +107,24 @@ step_world w (event.Take c text a) u t h =
     let q : Taking = record { catalog = w.script.catalog; now = w.clock; gate = t.gate; fresh = next_id s.client } in
     let after = takes_fitted q text s.client t.idle client_slot.fitted a t.client t.takes in
     let about = takes_in q text s.client t.client a t.idle client_slot.about t.takes in
-    at_place IsWorld w (λ n. event.Take n text a) c i (client_after s 1 t.client) u t.number t.left
-    (world_moves w i s (client_after s 1 t.client) (event.Take (suc i) text a) t.at (λ j n. take_apart (suc i) (suc j) text a (λ z. n (suc_is i j z))) (seat_takes w.script w.events i s client_slot a t.client after about text) tt h)
+    at_place IsWorld w (λ n. event.Take n text a) c i (client_after s 1 t.client) w.flights u t.number t.left
+    (world_moves w i s (client_after s 1 t.client) (event.Take (suc i) text a) w.flights t.at (λ j n. take_apart (suc i) (suc j) text a (λ z. n (suc_is i j z))) (seat_takes w.script w.events i s client_slot a t.client after about text) tt (late_stays w.events (event.Take (suc i) text a) w.flights (take_timely (suc i) text a) h.late) h)
 step_world w (event.Call c store q how r a) u t h =
     let i : ℕ = t.place in
     let s : ClientSlot = t.client_slot in
     let client_slot : IsClientState w.script w.events i s = h.each i s t.at in
     let after = replies_fitted w.script.catalog s.client q r w.clock client_slot.fitted a t.client t.takes in
     let about = replies_in w.script.catalog s.client q r w.clock t.can client_slot.about a t.client t.takes in
-    at_place IsWorld w (λ n. event.Call n store q how r a) c i (client_after s 0 t.client) u t.number t.left
-    (world_moves w i s (client_after s 0 t.client) (event.Call (suc i) store q how r a) t.at (λ j n. call_apart (suc i) (suc j) store q how r a (λ z. n (suc_is i j z))) (seat_calls w.script w.events i s client_slot a t.client after about store q how r) (asks_in w.script.catalog s.client q client_slot.about t.pending) h)
+    at_place IsWorld w (λ n. event.Call n store q how r a) c i (client_after s 0 t.client) (flights_after w.flights how q) u t.number t.left
+    (world_moves w i s (client_after s 0 t.client) (event.Call (suc i) store q how r a) (flights_after w.flights how q) t.at (λ j n. call_apart (suc i) (suc j) store q how r a (λ z. n (suc_is i j z))) (seat_calls w.script w.events i s client_slot a t.client after about store q how r) (asks_in w.script.catalog s.client q client_slot.about t.pending) (call_late w.events w.flights (suc i) store q how r a t.late h.late) h)
 step_world w (event.Stop c) u t h =
     let i : ℕ = t.place in
     let s : ClientSlot = t.client_slot in
-    at_place IsWorld w (λ n. event.Stop n) c i (client_stopped s) u t.number t.left
-    (world_moves w i s (client_stopped s) (event.Stop (suc i)) t.at (λ j n. stop_apart (suc i) (suc j) (λ z. n (suc_is i j z))) (seat_stops w.script w.events i s (h.each i s t.at)) tt h)
-step_world w (event.Clock m) u t h = subst (λ (x : State). IsWorld (led w (event.Clock m) x)) (sym t.1) (world_ticks w m t.0 (λ j. clock_apart m (suc j)) h)
-step_world w (event.Idle c) u t h = subst (λ (x : State). IsWorld (led w (event.Idle c) x)) (sym t) (world_stays w (event.Idle c) (λ j. idle_apart c (suc j)) tt h)
+    at_place IsWorld w (λ n. event.Stop n) c i (client_stopped s) w.flights u t.number t.left
+    (world_moves w i s (client_stopped s) (event.Stop (suc i)) w.flights t.at (λ j n. stop_apart (suc i) (suc j) (λ z. n (suc_is i j z))) (seat_stops w.script w.events i s (h.each i s t.at)) tt (late_stays w.events (event.Stop (suc i)) w.flights (record { delays = refl; lands = λ k. refl }) h.late) h)
+step_world w (event.Clock m) u t h = subst (λ (x : State). IsWorld (led w (event.Clock m) x)) (sym t.1) (world_ticks w m t.0 (λ j. clock_apart m (suc j)) (late_stays w.events (event.Clock m) w.flights (record { delays = refl; lands = λ k. refl }) h.late) h)
+step_world w (event.Idle c) u t h = subst (λ (x : State). IsWorld (led w (event.Idle c) x)) (sym t) (world_stays w (event.Idle c) w.flights (λ j. idle_apart c (suc j)) tt (late_stays w.events (event.Idle c) w.flights (record { delays = refl; lands = λ k. refl }) h.late) h)
+step_world w (event.Land number store q how r) u t h = subst (λ (x : State). IsWorld (led w (event.Land number store q how r) x)) (sym t.left) (world_stays w (event.Land number store q how r) (slice_set w.flights t.place None) (λ j. land_apart number store q how r (suc j)) (land_about w number store q how r u t h) (land_late w number store q how r u t h) h)
 
 -- The events stay tied to the clients by the rules of the protocol.
 step_linked : (w : WorldAt) (e : Event) (u : State) → IsStepFrom w.script (state_of w) e u → IsWorld w → IsLinked w → IsLinked (led w e u)
@@ -105,32 +132,34 @@ step_linked w (event.Take c text a) u t h g =
     let i : ℕ = t.place in
     let s : ClientSlot = t.client_slot in
     let q : Taking = record { catalog = w.script.catalog; now = w.clock; gate = t.gate; fresh = next_id s.client } in
-    at_place IsLinked w (λ n. event.Take n text a) c i (client_after s 1 t.client) u t.number t.left
+    at_place IsLinked w (λ n. event.Take n text a) c i (client_after s 1 t.client) w.flights u t.number t.left
     (linked_takes w i s q text a t.client h.playable refl t.at t.goes_on (is_ready w i s h t.at t.goes_on t.idle) (gated_at t.gate w.client_slots i t.gated) t.takes refl t.small h.moment g)
 step_linked w (event.Call c store q how r a) u t h g =
     let i : ℕ = t.place in
     let s : ClientSlot = t.client_slot in
-    at_place IsLinked w (λ n. event.Call n store q how r a) c i (client_after s 0 t.client) u t.number t.left
+    at_place IsLinked w (λ n. event.Call n store q how r a) c i (client_after s 0 t.client) (flights_after w.flights how q) u t.number t.left
     (linked_calls w i s store how q r a t.client h.playable t.at t.goes_on (is_waiting w i s q h t.at t.goes_on t.pending) t.can t.takes h.moment g)
-step_linked w (event.Stop c) u t h g = at_place IsLinked w (λ n. event.Stop n) c t.place (client_stopped t.client_slot) u t.number t.left (linked_stops w t.place t.client_slot t.at g)
+step_linked w (event.Stop c) u t h g = at_place IsLinked w (λ n. event.Stop n) c t.place (client_stopped t.client_slot) w.flights u t.number t.left (linked_stops w t.place t.client_slot t.at g)
 step_linked w (event.Clock m) u t h g = subst (λ (x : State). IsLinked (led w (event.Clock m) x)) (sym t.1) (linked_rests w (event.Clock m) tt g)
 step_linked w (event.Idle c) u t h g = subst (λ (x : State). IsLinked (led w (event.Idle c) x)) (sym t) (linked_rests w (event.Idle c) tt g)
+step_linked w (event.Land number store q how r) u t h g = subst (λ (x : State). IsLinked (led w (event.Land number store q how r) x)) (sym t.left) (linked_lands w number store q how r (h.late.late t.place q t.at).2 g)
 
 -- The answers keep their causes.
 step_caused : (w : WorldAt) (e : Event) (u : State) → IsStepFrom w.script (state_of w) e u → IsWorld w → IsLinked w → HaveCauses w → HaveCauses (led w e u)
 step_caused w (event.Take c text a) u t h g k =
     let i : ℕ = t.place in
     let s : ClientSlot = t.client_slot in
-    at_place HaveCauses w (λ n. event.Take n text a) c i (client_after s 1 t.client) u t.number t.left
+    at_place HaveCauses w (λ n. event.Take n text a) c i (client_after s 1 t.client) w.flights u t.number t.left
     (caused_takes w i s t.gate text a t.client h.playable t.at t.goes_on (is_ready w i s h t.at t.goes_on t.idle) (gated_by t.gate w.client_slots i t.gated) h.moment t.small t.takes g k)
 step_caused w (event.Call c store q how r a) u t h g k =
     let i : ℕ = t.place in
     let s : ClientSlot = t.client_slot in
-    at_place HaveCauses w (λ n. event.Call n store q how r a) c i (client_after s 0 t.client) u t.number t.left
+    at_place HaveCauses w (λ n. event.Call n store q how r a) c i (client_after s 0 t.client) (flights_after w.flights how q) u t.number t.left
     (caused_calls w i s store how q r a t.client h.playable t.at t.goes_on (is_waiting w i s q h t.at t.goes_on t.pending) (h.each i s t.at).about t.can t.stored t.takes h.moment g k)
-step_caused w (event.Stop c) u t h g k = at_place HaveCauses w (λ n. event.Stop n) c t.place (client_stopped t.client_slot) u t.number t.left (caused_stops w t.place t.client_slot t.at k)
+step_caused w (event.Stop c) u t h g k = at_place HaveCauses w (λ n. event.Stop n) c t.place (client_stopped t.client_slot) w.flights u t.number t.left (caused_stops w t.place t.client_slot t.at k)
 step_caused w (event.Clock m) u t h g k = subst (λ (x : State). HaveCauses (led w (event.Clock m) x)) (sym t.1) (caused_ticks w m k)
 step_caused w (event.Idle c) u t h g k = subst (λ (x : State). HaveCauses (led w (event.Idle c) x)) (sym t) (caused_idles w c k)
+step_caused w (event.Land number store q how r) u t h g k = subst (λ (x : State). HaveCauses (led w (event.Land number store q how r) x)) (sym t.left) (caused_lands w number store q how r k)
 
 ---- a whole execution
 
@@ -143,33 +172,34 @@ pub record Holds (w : WorldAt) : Type 0 where
 pub step_holds : (w : WorldAt) (e : Event) (u : State) → IsStepFrom w.script (state_of w) e u → Holds w → Holds (led w e u)
 step_holds w e u t k = record { world = step_world w e u t k.world; linked = step_linked w e u t k.world k.linked; caused = step_caused w e u t k.world k.linked k.caused }
 
-pub first_holds : (script : Script) (s : State) → IsPlayable script → IsInitial script s → Holds (record { script = script; client_slots = s.client_slots; events = []; clock = s.clock })
+pub first_holds : (script : Script) (s : State) → IsPlayable script → IsInitial script s → Holds (record { script = script; client_slots = s.client_slots; flights = s.flights; events = []; clock = s.clock })
 first_holds script s playable h =
-    subst (λ (z : ℤ). Holds (record { script = script; client_slots = s.client_slots; events = []; clock = z })) (sym h.clock) (record {
+    subst (λ (fs : List (Option Request)). Holds (record { script = script; client_slots = s.client_slots; flights = fs; events = []; clock = s.clock })) (sym h.none_late)
+    (subst (λ (z : ℤ). Holds (record { script = script; client_slots = s.client_slots; flights = []; events = []; clock = z })) (sym h.clock) (record {
       world = world_first script (length script.clients) s.client_slots [] playable refl h.fresh refl;
       linked = linked_first script.catalog (length script.clients) s.client_slots h.fresh;
       caused = caused_new script (length script.clients) s.client_slots [] h.fresh refl;
-    })
+    }))
 
-path_holds : (es : List Event) (w : WorldAt) (t : State) → IsPath w.script (state_of w) es t → Holds w → Holds (record { script = w.script; client_slots = t.client_slots; events = w.events ++ es; clock = t.clock })
+path_holds : (es : List Event) (w : WorldAt) (t : State) → IsPath w.script (state_of w) es t → Holds w → Holds (record { script = w.script; client_slots = t.client_slots; flights = t.flights; events = w.events ++ es; clock = t.clock })
 path_holds [] w t h k =
-    subst (λ (x : State). Holds (record { script = w.script; client_slots = x.client_slots; events = w.events ++ []; clock = x.clock })) (sym h)
-    (subst (λ (xs : List Event). Holds (record { script = w.script; client_slots = w.client_slots; events = xs; clock = w.clock })) (sym (append-nil w.events)) k)
+    subst (λ (x : State). Holds (record { script = w.script; client_slots = x.client_slots; flights = x.flights; events = w.events ++ []; clock = x.clock })) (sym h)
+    (subst (λ (xs : List Event). Holds (record { script = w.script; client_slots = w.client_slots; flights = w.flights; events = xs; clock = w.clock })) (sym (append-nil w.events)) k)
 path_holds (e ∷ es) w t h k =
-    subst (λ (xs : List Event). Holds (record { script = w.script; client_slots = t.client_slots; events = xs; clock = t.clock })) (append_assoc w.events (e ∷ []) es)
+    subst (λ (xs : List Event). Holds (record { script = w.script; client_slots = t.client_slots; flights = t.flights; events = xs; clock = t.clock })) (append_assoc w.events (e ∷ []) es)
     (path_holds es (led w e h.0) t h.2 (step_holds w e h.0 h.1 k))
 
 -- So it is of each state that events lead to.
-pub reached_holds : (script : Script) (events : List Event) (s : State) → IsPlayable script → IsReachedBy script events s → Holds (record { script = script; client_slots = s.client_slots; events = events; clock = s.clock })
-reached_holds script events s playable h = path_holds events (record { script = script; client_slots = h.first.client_slots; events = []; clock = h.first.clock }) s h.path (first_holds script h.first playable h.initial)
+pub reached_holds : (script : Script) (events : List Event) (s : State) → IsPlayable script → IsReachedBy script events s → Holds (record { script = script; client_slots = s.client_slots; flights = s.flights; events = events; clock = s.clock })
+reached_holds script events s playable h = path_holds events (record { script = script; client_slots = h.first.client_slots; flights = h.first.flights; events = []; clock = h.first.clock }) s h.path (first_holds script h.first playable h.initial)
 
 module _ (script : Script) (events : List Event) (playable : IsPlayable script) (h : IsExecution script events) where
-  pub execution_holds : Holds (record { script = script; client_slots = h.last.client_slots; events = events; clock = h.last.clock })
+  pub execution_holds : Holds (record { script = script; client_slots = h.last.client_slots; flights = h.last.flights; events = events; clock = h.last.clock })
   execution_holds = reached_holds script events h.last playable (record { first = h.first; initial = h.initial; path = h.path })
 
   -- Its answers have their causes.
   pub execution_caused : AnswersHaveCauses script.catalog events
-  execution_caused = outcome_caused (record { script = script; client_slots = h.last.client_slots; events = events; clock = h.last.clock }) events refl execution_holds.caused
+  execution_caused = outcome_caused (record { script = script; client_slots = h.last.client_slots; flights = h.last.flights; events = events; clock = h.last.clock }) events refl execution_holds.caused
 
   -- Its events are tied to its clients by the rules of the protocol.
   pub execution_linked : RunInvariant script.catalog (tables_are_well_typed script.catalog) (on_one events) (system_of (states_of h.last.client_slots)) (doing_of (states_of h.last.client_slots))

@@ -63,6 +63,9 @@ stop_apart c d n = record { takes = refl; stops = ne_eqb c d n; pends = λ was. 
 pub idle_apart : (c d : ℕ) → IsApart d (event.Idle c)
 idle_apart c d = record { takes = refl; stops = refl; pends = λ was. refl }
 
+pub land_apart : (number : ℕ) (store : Name) (q : Request) (how : How) (r : Reply) (d : ℕ) → IsApart d (event.Land number store q how r)
+land_apart number store q how r d = record { takes = refl; stops = refl; pends = λ was. refl }
+
 pub clock_apart : (m : ℤ) (d : ℕ) → IsApart d (event.Clock m)
 clock_apart m d = record { takes = refl; stops = refl; pends = λ was. refl }
 

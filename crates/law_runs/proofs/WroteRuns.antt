@@ -73,7 +73,7 @@ module _ (script : Script) (events : List Event) (playable : IsPlayable script) 
   catalog = script.catalog
 
   abbrev w : WorldAt
-  w = record { script = script; client_slots = x.last.client_slots; events = events; clock = x.last.clock }
+  w = record { script = script; client_slots = x.last.client_slots; flights = x.last.flights; events = events; clock = x.last.clock }
 
   prepared : AllSo NothingMore WaitPrepares w
   prepared = statements_so NothingMore WaitPrepares prepares_kept script events playable x

@@ -37,6 +37,7 @@ event_fits (event.Call client store request how reply given) =
 event_fits (event.Stop client) = client < 2 ^ 32
 event_fits (event.Clock moment) = FitsSigned w64 moment
 event_fits (event.Idle client) = client < 2 ^ 32
+event_fits (event.Land number store request how reply) = (number < 2 ^ 32) × (is_name store ≡ true) × request_is_plain request × reply_is_plain reply
 
 pub record dump_fits (t : TableDump) : Type 0 where
   pub name : table_is_plain t.name

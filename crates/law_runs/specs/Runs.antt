@@ -9,7 +9,7 @@ use Rattle.sdb_model.specs.Serial.{IsRun}
 use Rattle.law_protocol.specs.Spread.{HoldAs}
 use Rattle.sdb_client.specs.Execution.{IsExecution, IsPlayable}
 
--- A run of a script that can be played and has no LF in a statement, on stores that held nothing of its tables.
+-- A run of a script that can be run and has no LF in a statement, on stores that held nothing of its tables.
 pub record LineRun : Type 0 where
   pub script : Script
   pub opening : List StoreContents

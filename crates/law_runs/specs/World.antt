@@ -1,36 +1,44 @@
--- The state of a run: the clients of a script, and the events so far.
+-- The state of a run: the clients of a script, the requests in flight, and the events so far.
 use Rattle.std.specs.Prelude.{◌≡◌, ℕ, zero, suc, ℤ, true, false, List, [], ◌∷◌, ◌++◌, length, Option, Some, None, slice_get, slice_set}
+use Rattle.std.specs.List.{filter_map, list_any}
 use Rattle.sdb_record.specs.Meta.{is_moment}
-use Rattle.law_runs.specs.Types.{ClientSlot, Event, Script}
-use Rattle.sdb_model.specs.Follows.{has_stopped, is_pending, takes_of}
+use Rattle.law_runs.specs.Types.{ClientSlot, Event, Request, Script}
+use Rattle.sdb_model.specs.Follows.{delayed_at, delayed_by, has_stopped, is_pending, lands, takes_of}
 use Rattle.law_protocol.specs.Spread.{AreAbout}
 use Rattle.sdb_client.specs.Client.{IsBusy, IsIdle, nothing_done}
 use Rattle.law_clients.specs.About.{IsOfTables}
+use Rattle.law_clients.specs.Invariant.{HasDelayed}
 use Rattle.law_clients.specs.States.{ClientState, IsFitted}
 use Rattle.sdb_client.specs.Execution.{IsPlayable, State}
 
--- the script, its clients in their order, the events so far, and the moment
+-- the script, its clients in their order, the requests of the calls that were delayed, each none once it landed, the events so far, and
+-- the moment
 pub record WorldAt : Type 0 where
   pub script : Script
   pub client_slots : List ClientSlot
+  pub flights : List (Option Request)
   pub events : List Event
   pub clock : ℤ
 
--- where its clients and the clock are
+-- where its clients, the requests in flight and the clock are
 abbrev pub state_of : WorldAt → State
-state_of w = record { client_slots = w.client_slots; clock = w.clock }
+state_of w = record { client_slots = w.client_slots; flights = w.flights; clock = w.clock }
 
 -- with an event more
 abbrev pub with_event : WorldAt → Event → WorldAt
-with_event w e = record { script = w.script; client_slots = w.client_slots; events = w.events ++ e ∷ []; clock = w.clock }
+with_event w e = record { script = w.script; client_slots = w.client_slots; flights = w.flights; events = w.events ++ e ∷ []; clock = w.clock }
 
 -- with another client at a place
 abbrev pub with_client : WorldAt → ℕ → ClientSlot → WorldAt
-with_client w i s = record { script = w.script; client_slots = slice_set w.client_slots i s; events = w.events; clock = w.clock }
+with_client w i s = record { script = w.script; client_slots = slice_set w.client_slots i s; flights = w.flights; events = w.events; clock = w.clock }
 
 -- at another moment
 abbrev pub at_moment : WorldAt → ℤ → WorldAt
-at_moment w moment = record { script = w.script; client_slots = w.client_slots; events = w.events; clock = moment }
+at_moment w moment = record { script = w.script; client_slots = w.client_slots; flights = w.flights; events = w.events; clock = moment }
+
+-- with other requests in flight
+abbrev pub with_late : WorldAt → List (Option Request) → WorldAt
+with_late w flights = record { script = w.script; client_slots = w.client_slots; flights = flights; events = w.events; clock = w.clock }
 
 ---- the clients by their numbers, from 1
 
@@ -55,10 +63,18 @@ pub record IsClientState (script : Script) (events : List Event) (i : ℕ) (s : 
   pub busy : is_pending (suc i) events ≡ true → IsBusy s.client
   pub idle : is_pending (suc i) events ≡ false → IsIdle s.client
 
+-- They are the requests of the calls that the events delayed, whose clients were answered a fault, in order: each is none once it has landed.
+pub record AreInFlight (events : List Event) (flights : List (Option Request)) : Type 0 where
+  pub count : length flights ≡ length (filter_map delayed_by events)
+  pub late : (k : ℕ) (q : Request) → slice_get flights k ≡ Some (Some q) → (delayed_at (suc k) events ≡ Some q) × (list_any (lands (suc k)) events ≡ false) × HasDelayed events q
+  pub landed : (k : ℕ) → slice_get flights k ≡ Some None → list_any (lands (suc k)) events ≡ true
+  pub none : (k : ℕ) → slice_get flights k ≡ None → list_any (lands (suc k)) events ≡ false
+
 -- What holds of a world between two steps.
 pub record IsWorld (w : WorldAt) : Type 0 where
   pub playable : IsPlayable w.script
   pub clients : length w.client_slots ≡ length w.script.clients
   pub each : (i : ℕ) (s : ClientSlot) → slice_get w.client_slots i ≡ Some s → IsClientState w.script w.events i s
+  pub late : AreInFlight w.events w.flights
   pub moment : is_moment w.clock ≡ true
   pub about : AreAbout w.script.catalog w.events

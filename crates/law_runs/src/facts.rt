@@ -170,6 +170,12 @@ fn event_facts(event: &Event)
         Event::Clock(moment) => {
             let _moment = *moment;
         }
+        Event::Land(number, store, request, _, reply) => {
+            let _number = *number;
+            name_facts(store);
+            request_facts(request);
+            reply_facts(reply);
+        }
     }
 }
 

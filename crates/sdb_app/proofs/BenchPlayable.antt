@@ -34,6 +34,8 @@ can_move : (n : ℕ) (first last : List ℕ) (m : Move) → IsOfNine m → CanMo
 can_move n first last (move.Act (act.Step c)) h = (h.0, subst (λ (k : ℕ). c ≤ k) (sym (bench_nine n first last)) h.1)
 can_move n first last (move.Act (act.Lose c)) h = absurd h
 can_move n first last (move.Act (act.Discard c)) h = absurd h
+can_move n first last (move.Act (act.Delay c)) h = absurd h
+can_move n first last (move.Act (act.Land number)) h = absurd h
 can_move n first last (move.Act (act.Stop c)) h = absurd h
 can_move n first last (move.Act (act.Clock moment)) h = absurd h
 can_move n first last (move.Repeat c times) h = (h.0, subst (λ (k : ℕ). c ≤ k) (sym (bench_nine n first last)) h.1)

@@ -113,6 +113,8 @@ can_act : (s : Script) (a : Act) → is_act (length s.clients) a ≡ true → Ca
 can_act s (act.Step c) h = numbered (length s.clients) c h
 can_act s (act.Lose c) h = numbered (length s.clients) c h
 can_act s (act.Discard c) h = numbered (length s.clients) c h
+can_act s (act.Delay c) h = numbered (length s.clients) c h
+can_act s (act.Land number) h = tt
 can_act s (act.Stop c) h = numbered (length s.clients) c h
 can_act s (act.Clock moment) h = h
 

@@ -1,12 +1,12 @@
 -- Where events follow a script, each client has accepted the texts of its statements in their order.
-use Rattle.std.proofs.Common.{◌≡◌, ℕ, zero, suc, ◌+◌, Bool, true, false, cond, List, [], ◌∷◌, ◌++◌, map, take, length, Some, None, refl, sym, ap, subst, ◌∙◌, arith, append-nil}
+use Rattle.std.proofs.Common.{◌≡◌, ℕ, zero, suc, ◌+◌, Bool, true, false, cond, List, [], ◌∷◌, ◌++◌, map, take, length, Option, Some, None, refl, sym, ap, subst, ◌∙◌, arith, append-nil}
 use Rattle.std.specs.Prelude.{MatchBool, ◌==◌, slice_get, count_by}
 use Rattle.std.proofs.lemmas.List.Sums.{sum_by-append, sum_by-cons}
-use Rattle.sdb_bench.specs.Types.{Act, Answer, Event, How, Move, Reply, Script, ScriptClient}
+use Rattle.sdb_bench.specs.Types.{Act, Answer, Event, How, Move, Reply, Request, Script, ScriptClient}
 use Rattle.sdb_model.specs.declared.event.Event.TheVariants as event
 use Rattle.sdb_model.specs.declared.script.Act.TheVariants as act
 use Rattle.sdb_model.specs.declared.script.Move.TheVariants as move
-use Rattle.sdb_model.specs.Follows.{AreOfMoves, AreStepsOf, Follows, IsActed, IsCallOf, IsHowOfDiscard, IsHowOfLose, IsHowOfStep, IsOfMove, IsRest, IsStep, IsTakeOf, has_work, is_pending, takes_of, is_take_of, texts_of}
+use Rattle.sdb_model.specs.Follows.{AreOfMoves, AreStepsOf, Follows, IsActed, IsCallOf, IsHowOfDelay, IsHowOfDiscard, IsHowOfLose, IsHowOfStep, IsLanding, IsOfMove, IsRest, IsStep, IsTakeOf, has_work, in_flight, is_pending, takes_of, is_take_of, texts_of}
 use Rattle.sdb_model.specs.Transactions.{Executed, statements_by, statements_after, with_answer}
 use Rattle.sdb_types.proofs.Public.{assoc, by_test, eq_of, map_last, none_some, some_is}
 use Rattle.law_clients.proofs.Public.{executed_more}
@@ -72,6 +72,7 @@ event_more clients c past n (event.Call d store q how r None) may h = h ∙ ap (
 event_more clients c past n (event.Stop d) may h = h ∙ ap (λ (m : ℕ). take m (texts_of clients c)) (plain (takes_of c past))
 event_more clients c past n (event.Clock d) may h = h ∙ ap (λ (m : ℕ). take m (texts_of clients c)) (plain (takes_of c past))
 event_more clients c past n (event.Idle d) may h = h ∙ ap (λ (m : ℕ). take m (texts_of clients c)) (plain (takes_of c past))
+event_more clients c past n (event.Land k store q how r) may h = h ∙ ap (λ (m : ℕ). take m (texts_of clients c)) (plain (takes_of c past))
 
 one_more : (clients : List ScriptClient) (past : List Event) (e : Event) → MayCome clients past e → AreTaken clients past → AreTaken clients (past ++ e ∷ [])
 one_more clients past e may h c =
@@ -88,20 +89,34 @@ step_may clients c allowed past (event.Take d text a) true true h = absurd h
 step_may clients c allowed past (event.Stop d) true true h = absurd h
 step_may clients c allowed past (event.Clock d) true true h = absurd h
 step_may clients c allowed past (event.Idle d) true true h = absurd h
+step_may clients c allowed past (event.Land k store q how r) true true h = absurd h
 step_may clients c allowed past (event.Take d text a) true false h = subst (λ (x : ℕ). slice_get (texts_of clients x) (takes_of x past) ≡ Some text) (sym h.0) h.1
 step_may clients c allowed past (event.Call d store q how r a) true false h = tt
 step_may clients c allowed past (event.Stop d) true false h = tt
 step_may clients c allowed past (event.Clock d) true false h = tt
 step_may clients c allowed past (event.Idle d) true false h = tt
+step_may clients c allowed past (event.Land k store q how r) true false h = tt
 step_may clients c allowed past e false waits h = subst (MayCome clients past) (sym h) tt
 
 stepped : (clients : List ScriptClient) (c : ℕ) (allowed : How → Reply → Type 0) (past : List Event) (e : Event) → IsStep clients c allowed past e → AreTaken clients past → AreTaken clients (past ++ e ∷ [])
 stepped clients c allowed past e h = one_more clients past e (step_may clients c allowed past e (has_work clients c past) (is_pending c past) h)
 
+-- a landing takes no text
+landing_may : (clients : List ScriptClient) (k : ℕ) (past : List Event) (e : Event) (asked : Option Request) → IsLanding k asked e → MayCome clients past e
+landing_may clients k past e None h = subst (MayCome clients past) (sym h) tt
+landing_may clients k past (event.Take c text answer) (Some q) h = absurd h
+landing_may clients k past (event.Call c store q how r a) (Some asked) h = tt
+landing_may clients k past (event.Stop c) (Some q) h = tt
+landing_may clients k past (event.Clock moment) (Some q) h = tt
+landing_may clients k past (event.Idle c) (Some q) h = tt
+landing_may clients k past (event.Land n store q how r) (Some asked) h = tt
+
 acted : (clients : List ScriptClient) (a : Act) (past : List Event) (e : Event) → IsActed clients a past e → AreTaken clients past → AreTaken clients (past ++ e ∷ [])
 acted clients (act.Step c) past e h = stepped clients c IsHowOfStep past e h
 acted clients (act.Lose c) past e h = stepped clients c IsHowOfLose past e h
 acted clients (act.Discard c) past e h = stepped clients c IsHowOfDiscard past e h
+acted clients (act.Delay c) past e h = stepped clients c IsHowOfDelay past e h
+acted clients (act.Land k) past e h = one_more clients past e (landing_may clients k past e (in_flight k past) h)
 acted clients (act.Stop c) past e h = one_more clients past e (subst (MayCome clients past) (sym h) tt)
 acted clients (act.Clock m) past e h = one_more clients past e (subst (MayCome clients past) (sym h) tt)
 

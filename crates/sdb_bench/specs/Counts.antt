@@ -22,6 +22,7 @@ is_commit (event.Call client store request how reply answer) = is_writer client 
 is_commit (event.Stop client) = false
 is_commit (event.Clock moment) = false
 is_commit (event.Idle client) = false
+is_commit (event.Land number store request how reply) = false
 
 unfoldable pub is_call : Event → Bool
 is_call (event.Take client text answer) = false
@@ -29,6 +30,7 @@ is_call (event.Call client store request how reply answer) = true
 is_call (event.Stop client) = false
 is_call (event.Clock moment) = false
 is_call (event.Idle client) = false
+is_call (event.Land number store request how reply) = false
 
 ---- rows: the values of the columns n, p and v
 

@@ -78,6 +78,8 @@ abbrev pub IsOfNine : Move → Type 0
 IsOfNine (move.Act (act.Step c)) = (0 < c) × (c ≤ 9)
 IsOfNine (move.Act (act.Lose c)) = ⊥
 IsOfNine (move.Act (act.Discard c)) = ⊥
+IsOfNine (move.Act (act.Delay c)) = ⊥
+IsOfNine (move.Act (act.Land k)) = ⊥
 IsOfNine (move.Act (act.Stop c)) = ⊥
 IsOfNine (move.Act (act.Clock moment)) = ⊥
 IsOfNine (move.Repeat c times) = (0 < c) × (c ≤ 9)

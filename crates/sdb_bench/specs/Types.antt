@@ -20,5 +20,6 @@ pub use Rattle.sdb_types.specs.declared.key.TableName.{TableName}
 pub use Rattle.sdb_types.specs.declared.pair.Pair.{Pair}
 pub use Rattle.sdb_types.specs.declared.place.Place.{Place}
 pub use Rattle.sdb_types.specs.declared.record.Reply.{Reply}
+pub use Rattle.sdb_types.specs.declared.record.Request.{Request}
 pub use Rattle.sdb_types.specs.declared.txid.TxId.{TxId}
 pub use Rattle.sdb_types.specs.declared.value.Value.{Value}

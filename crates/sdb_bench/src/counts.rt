@@ -39,6 +39,7 @@ fn is_commit(event: &Event) -> bool
         Event::Stop(_) => false,
         Event::Clock(_) => false,
         Event::Idle(_) => false,
+        Event::Land(_, _, _, _, _) => false,
     }
 }
 
@@ -52,6 +53,7 @@ fn is_call(event: &Event) -> bool
         Event::Stop(_) => false,
         Event::Clock(_) => false,
         Event::Idle(_) => false,
+        Event::Land(_, _, _, _, _) => false,
     }
 }
 

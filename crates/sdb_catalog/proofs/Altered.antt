@@ -54,8 +54,8 @@ module _ (name : TableName) (c : Column) (es : List Entry) (e : Entry) (old mid 
     (own : column_refused_by e.table c ≡ None → is_table e.table ≡ true → is_table (grown e.table c) ≡ true) where
   -- the put was made
   grown_now : (new : Contents) → old.known 0 → column_refused_by e.table c ≡ None → new ≡ after (alteration_of c e) (first_contents mid.views) → IsGrownIn (names_of old.views) name c (first_contents old.views) new
-  grown_now new t taken is =
-      grown_in (names_of old.views) name c es e (first_contents old.views) (opens_in es old mid.views t read) (read_rises old mid.views es read) found taken (own taken) new (is ∙ ap (after (alteration_of c e)) (keeps t))
+  grown_now new t allowed is =
+      grown_in (names_of old.views) name c es e (first_contents old.views) (opens_in es old mid.views t read) (read_rises old mid.views es read) found allowed (own allowed) new (is ∙ ap (after (alteration_of c e)) (keeps t))
 
   applies : old.known 0 → put_reply (Version e.revision Committed) (record_at (first_contents mid.views) (row_of (altered c e)).key) ≡ Applied
   applies t =
@@ -117,14 +117,14 @@ stopped_cause name refused.NoMemory old mid new goes h = tt
 
 ---- the put of a row
 
-module _ (c : Column) (e renewed : Entry) (r : Result Alteration CatalogRefused) (old new : Attached) (is : renewed ≡ altered c e) (taken : column_refused_by e.table c ≡ None) where
+module _ (c : Column) (e renewed : Entry) (r : Result Alteration CatalogRefused) (old new : Attached) (is : renewed ≡ altered c e) (allowed : column_refused_by e.table c ≡ None) where
   pub came_of : IfOk r (λ o. WasPut (put_over renewed e) o old new.views) → IfOk r (λ o. CameOf c e o old new.views)
   came_of h = by r h
     where
       as_put : (o : Alteration) → WasPut (alteration_of c e) o old new.views → CameOf c e o old new.views
-      as_put alteration.Altered k = (taken, k)
+      as_put alteration.Altered k = (allowed, k)
       as_put (alteration.Refused number) k = absurd k
-      as_put alteration.Differs k = (taken, k)
+      as_put alteration.Differs k = (allowed, k)
 
       by : (r : Result Alteration CatalogRefused) → IfOk r (λ o. WasPut (put_over renewed e) o old new.views) → IfOk r (λ o. CameOf c e o old new.views)
       by (Ok o) k = as_put o (subst (λ (x : Entry). WasPut (put_over x e) o old new.views) is k)
@@ -136,7 +136,7 @@ module _ (c : Column) (e renewed : Entry) (r : Result Alteration CatalogRefused)
       may : MayAlter c e old new
       may t = elim (subst (λ (x : Entry). MayChange (put_over x e) old new) is h t) [
         | inl same ↦ inl same
-        | inr done ↦ inr (taken, done)
+        | inr done ↦ inr (allowed, done)
       ]
 
       by : (r : Result Alteration CatalogRefused) → IfErr r (λ x. MayAlter c e old new)

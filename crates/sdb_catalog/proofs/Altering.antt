@@ -206,12 +206,12 @@ module _ (names : List (List ℕ)) (name : TableName) (c : Column) (es : List En
 
   -- the put leaves contents whose rows make the catalog with a column more
   pub grown_in : Opens names (rows_in metadata_span m) es → rises (tables_of es) ≡ true → entry_named es name ≡ Some e → column_refused_by e.table c ≡ None → (is_table e.table ≡ true → is_table (grown e.table c) ≡ true) → (new : Contents) → new ≡ after (alteration_of c e) m → IsGrownIn names name c m new
-  grown_in opens up found taken own new is = record {
+  grown_in opens up found allowed own new is = record {
     entries = es;
     opens = opens;
     entry = e;
     found = found;
-    taken = refused_same es name c e found ∙ taken;
+    allowed = refused_same es name c e found ∙ allowed;
     contents = is ∙ after_is opens found;
     now = subst (λ (n : Contents). Opens names (rows_in metadata_span n) (altered_entries es name c)) (sym (is ∙ after_is opens found)) (opens_now opens found own);
     tables = tables_altered es name c up;

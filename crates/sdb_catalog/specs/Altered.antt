@@ -127,7 +127,7 @@ pub record IsGrownIn (names : List (List ℕ)) (name : TableName) (c : Column) (
   pub opens : Opens names (rows_in metadata_span old) entries
   pub entry : Entry
   pub found : entry_named entries name ≡ Some entry
-  pub taken : column_refused (tables_of entries) name c ≡ None
+  pub allowed : column_refused (tables_of entries) name c ≡ None
   pub contents : new ≡ insert old (row_of (altered c entry)).key (row_of (altered c entry)).columns
   pub now : Opens names (rows_in metadata_span new) (altered_entries entries name c)
   pub tables : tables_of (altered_entries entries name c) ≡ with_column (tables_of entries) name c

@@ -28,7 +28,7 @@ fn entry_named<'a>(entries: &'a [Entry], name: &TableName) -> Option<&'a Entry>
 fn altered(entry: &Entry, column: &Column) -> Result<Entry, ColumnRefused>
     requires short { nat_le (length column.now.name) 64 ≡ true }
     ensures ok { IfOk result (λ e. e ≡ altered_lem column.now entry.now) }
-    ensures taken { OnOk result (column_refused_by entry.now.table column.now ≡ None) }
+    ensures allowed { OnOk result (column_refused_by entry.now.table column.now ≡ None) }
     ensures table { IfOk result (λ e. is_table entry.now.table ≡ true → is_table e.table ≡ true) }
     ensures refused { IfErr result (λ e. number_of e ≡ column_refused_by entry.now.table column.now) }
 {

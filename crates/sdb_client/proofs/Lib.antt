@@ -9,4 +9,5 @@ mod Waits
 mod Steps
 mod Fresh
 mod Paths
+mod Delayed
 pub mod Public

@@ -91,7 +91,7 @@ is_out_of_memory answer.NoMemory = true
 is_out_of_memory a = false
 
 -- The transaction that a statement leaves, which read it as `t`: with its changes written, or, where it is answered that it changed
--- nothing, as it read it. What it read stays noted.
+-- nothing, as it read it. What it read stays in its read set.
 abbrev pub left_by_answer : TxnAt → Answer → List Keyed → TxnAt
 left_by_answer t z ks = if changes_nothing z then t else written t ks
 

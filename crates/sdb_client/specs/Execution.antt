@@ -1,12 +1,15 @@
--- Executions: the states of a script's clients and their steps by the protocol, whatever the stores reply.
-use Rattle.std.specs.Prelude.{◌≡◌, ◌≢◌, ℕ, suc, ℤ, pos, ◌+◌, ◌-◌, ◌<◌, ◌^◌, true, false, List, [], ◌∷◌, length, Option, Some, None, IfSome, IsSomeAnd, is_some, slice_get, slice_set}
-use Rattle.sdb_client.specs.Types.{Answer, Event, Key, Reply, Request, Script}
+-- Executions: the states of a script's clients and of the requests in flight, and their steps by the protocol, whatever the stores
+-- reply.
+use Rattle.std.specs.Prelude.{◌≡◌, ◌≢◌, ℕ, suc, ℤ, pos, ◌+◌, ◌-◌, ◌<◌, ◌^◌, true, false, List, [], ◌∷◌, ◌++◌, length, Option, Some, None, IfSome, IsSomeAnd, is_some, slice_get, slice_set}
+use Rattle.sdb_client.specs.Types.{Answer, Event, How, Key, Reply, Request, Script}
+use Rattle.sdb_types.specs.declared.record.Reply.TheVariants as reply
 use Rattle.sdb_types.specs.Contents.{CanAnswer}
 use Rattle.sdb_record.specs.Meta.{is_moment}
 use Rattle.sdb_schema.specs.Catalog.{is_catalog}
 use Rattle.sdb_model.specs.declared.event.Event.TheVariants as event
+use Rattle.sdb_model.specs.declared.event.How.TheVariants.{Delayed}
 use Rattle.sdb_model.specs.Exec.{find_table}
-use Rattle.sdb_model.specs.Follows.{texts_of}
+use Rattle.sdb_model.specs.Follows.{IsHowOfStep, texts_of}
 use Rattle.sdb_client.specs.Client.{ClientAt, IsIdle, client_pending, next_id, nothing_done}
 use Rattle.sdb_client.specs.Step.{Receives, Step, Takes}
 use Rattle.sdb_client.specs.declared.gate.Gate.{Gate}
@@ -24,9 +27,11 @@ pub record IsPlayable (script : Script) : Type 0 where
 
 ---- states
 
--- A state: each client, with how many of its statements it has accepted and whether it has stopped, client 1 first; and the clock.
+-- A state: each client, with how many of its statements it has accepted and whether it has stopped, client 1 first; the requests of
+-- the calls that were delayed, in order, each none once it has landed; and the clock.
 pub record State : Type 0 where
   pub client_slots : List ClientSlot
+  pub flights : List (Option Request)
   pub clock : ℤ
 
 -- a client that has done nothing
@@ -38,9 +43,10 @@ pub record AreFresh (count : ℕ) (client_slots : List ClientSlot) : Type 0 wher
   pub size : length client_slots ≡ count
   pub each : (i : ℕ) (s : ClientSlot) → slice_get client_slots i ≡ Some s → s ≡ initial_client i
 
--- An initial state: no client has done anything, and the clock shows 0.
+-- An initial state: no client has done anything, nothing is in flight, and the clock shows 0.
 pub record IsInitial (script : Script) (s : State) : Type 0 where
   pub fresh : AreFresh (length script.clients) s.client_slots
+  pub none_late : s.flights ≡ []
   pub clock : s.clock ≡ pos 0
 
 -- a client after a statement or a reply
@@ -53,7 +59,16 @@ client_stopped s = record { client = s.client; accepted = s.accepted; stopped = 
 
 -- with another client at a place
 abbrev pub with_client_at : State → ℕ → ClientSlot → State
-with_client_at s i client_slot = record { client_slots = slice_set s.client_slots i client_slot; clock = s.clock }
+with_client_at s i client_slot = record { client_slots = slice_set s.client_slots i client_slot; flights = s.flights; clock = s.clock }
+
+-- the requests in flight after a call: a delayed one goes into flight
+abbrev pub flights_after : List (Option Request) → How → Request → List (Option Request)
+flights_after flights Delayed q = flights ++ Some q ∷ []
+flights_after flights how q = flights
+
+-- with other requests in flight
+abbrev pub with_flights : State → List (Option Request) → State
+with_flights s flights = record { client_slots = s.client_slots; flights = flights; clock = s.clock }
 
 ---- what the other clients do
 
@@ -102,8 +117,9 @@ pub record TakeStep (script : Script) (s : State) (c : ℕ) (text : List ℕ) (a
   pub takes : Step client_slot.client (Takes (record { catalog = script.catalog; now = s.clock; gate = gate; fresh = next_id client_slot.client }) text) answer client
   pub left : t ≡ with_client_at s place (client_after client_slot 1 client)
 
--- A client that hasn't stopped makes the call that it has pending, and takes a reply that this can get.
-pub record CallStep (s : State) (c : ℕ) (q : Request) (r : Reply) (answer : Option Answer) (t : State) : Type 0 where
+-- A client that hasn't stopped makes the call that it has pending, and takes a reply that this can get. A call that is delayed goes
+-- into flight, and its client takes a fault.
+pub record CallStep (s : State) (c : ℕ) (q : Request) (how : How) (r : Reply) (answer : Option Answer) (t : State) : Type 0 where
   pub place : ℕ
   pub client_slot : ClientSlot
   pub client : ClientAt
@@ -113,8 +129,13 @@ pub record CallStep (s : State) (c : ℕ) (q : Request) (r : Reply) (answer : Op
   pub pending : client_pending client_slot.client ≡ Some q
   pub can : CanAnswer q r
   pub stored : is_stored_reply r ≡ true
+  pub late : how ≡ Delayed → r ≡ reply.Fault
   pub takes : Step client_slot.client (Receives q r s.clock) answer client
-  pub left : t ≡ with_client_at s place (client_after client_slot 0 client)
+  pub left : t ≡ with_flights (with_client_at s place (client_after client_slot 0 client)) (flights_after s.flights how q)
+
+-- A client's call that faulted, with this how, leads there.
+abbrev pub FaultsTo : State → ℕ → Request → How → Option Answer → State → Type 0
+FaultsTo s c q how answer t = CallStep s c q how reply.Fault answer (with_flights t (flights_after s.flights how q))
 
 -- A client stops.
 pub record StopStep (s : State) (c : ℕ) (t : State) : Type 0 where
@@ -124,13 +145,24 @@ pub record StopStep (s : State) (c : ℕ) (t : State) : Type 0 where
   pub at : slice_get s.client_slots place ≡ Some client_slot
   pub left : t ≡ with_client_at s place (client_stopped client_slot)
 
+-- A request in flight lands, and is in flight no more. No client learns of it.
+pub record LandStep (s : State) (number : ℕ) (q : Request) (how : How) (r : Reply) (t : State) : Type 0 where
+  pub place : ℕ
+  pub number_is : number ≡ suc place
+  pub at : slice_get s.flights place ≡ Some (Some q)
+  pub allowed : IsHowOfStep how r
+  pub can : CanAnswer q r
+  pub stored : is_stored_reply r ≡ true
+  pub left : t ≡ with_flights s (slice_set s.flights place None)
+
 -- An event is a step from one state to another.
 abbrev pub IsStepFrom : Script → State → Event → State → Type 0
 IsStepFrom script s (event.Take c text answer) t = TakeStep script s c text answer t
-IsStepFrom script s (event.Call c store q how r answer) t = CallStep s c q r answer t
+IsStepFrom script s (event.Call c store q how r answer) t = CallStep s c q how r answer t
 IsStepFrom script s (event.Stop c) t = StopStep s c t
-IsStepFrom script s (event.Clock moment) t = (is_moment moment ≡ true) × (t ≡ record { client_slots = s.client_slots; clock = moment })
+IsStepFrom script s (event.Clock moment) t = (is_moment moment ≡ true) × (t ≡ record { client_slots = s.client_slots; flights = s.flights; clock = moment })
 IsStepFrom script s (event.Idle c) t = t ≡ s
+IsStepFrom script s (event.Land number store q how r) t = LandStep s number q how r t
 
 -- Events lead from one state to another, one step each.
 abbrev pub IsPath : Script → State → List Event → State → Type 0

@@ -3,6 +3,7 @@ pub use Rattle.sdb_exec.specs.declared.plan.PlanStep.{PlanStep}
 pub use Rattle.sdb_model.specs.declared.answer.Answer.{Answer}
 pub use Rattle.sdb_model.specs.declared.answer.Refusal.{Refusal}
 pub use Rattle.sdb_model.specs.declared.event.Event.{Event}
+pub use Rattle.sdb_model.specs.declared.event.How.{How}
 pub use Rattle.sdb_model.specs.declared.script.Script.{Script}
 pub use Rattle.sdb_model.specs.declared.statement.Statement.{Statement}
 pub use Rattle.sdb_phases.specs.declared.check.Check.{Check}

@@ -11,7 +11,7 @@ use Rattle.sdb_types.specs.declared.record.Reply.TheVariants as reply
 use Rattle.sdb_types.specs.Contents.{Contents, after}
 use Rattle.sdb_store.specs.Store.{Performs}
 use Rattle.sdb_stores.specs.Views.{Attached, StoreView as Counted, AreUnchanged, IsCallAt, names_of, home_in, table_of}
-use Rattle.sdb_model.specs.declared.event.How.TheVariants.{Seen, Lost, Discarded}
+use Rattle.sdb_model.specs.declared.event.How.TheVariants.{Seen, Lost, Discarded, Delayed}
 use Rattle.sdb_model.specs.Rows.{Name}
 use Rattle.sdb_model.specs.Events.{IsPerformed, contents_under, with_contents, store_of, table_asked}
 use Rattle.sdb_contents.specs.Board.{AreUsableFor, HoldTheSame, IsCalled, IsDelivered, IsMade, IsOneCall, KnownAreUnchanged, how_lost, how_seen, reply_lost, contents_of_views}
@@ -123,6 +123,12 @@ module _ (old : Attached) (q : Request) (fit : AreUsableFor (table_asked q) old)
             performed = (refl, refl);
             others = sym (set_still old.views _ s s at refl refl) ∙ set_there old.views _ s s fit.distinct at refl ∙ ap (λ (n : Name). with_contents (contents_of_views old.views) n s.contents) (sym there);
           }
+
+  -- nor is one that is delayed
+  pub delayed : IsMade q Delayed reply.Fault old old
+  delayed =
+      let d = discarded in
+      record { held = d.held; left = d.left; placed = d.placed; found = d.found; performed = d.performed; others = d.others }
 
 -- a call that answered, and whose reply is lost
 loses : (q : Request) (r : Reply) (old new : Attached) → IsMade q Seen r old new → r ≢ reply.NoMemory → IsMade q Lost reply.Fault old new

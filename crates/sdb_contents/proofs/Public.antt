@@ -7,7 +7,7 @@ pub use Rattle.sdb_contents.proofs.GoesOn.{fit_for, fit_for_as, fit_for_before, 
 pub use Rattle.sdb_contents.proofs.Images.{decision_there, records_rise}
 pub use Rattle.sdb_contents.proofs.Later.{odd_before, recorded_later}
 pub use Rattle.sdb_contents.proofs.Lists.{take_suc}
-pub use Rattle.sdb_contents.proofs.Made.{asked, discarded, lost, once_lost, once_seen, unasked}
+pub use Rattle.sdb_contents.proofs.Made.{asked, delayed, discarded, lost, once_lost, once_seen, unasked}
 pub use Rattle.sdb_contents.proofs.Making.{all_less}
 pub use Rattle.sdb_contents.proofs.Refusals.{passed, refused_as}
 pub use Rattle.sdb_contents.proofs.StoreContents.{named_home}

@@ -3,7 +3,7 @@ use Rattle.std.specs.Prelude.{◌≡◌, ℕ, ◌<◌, ◌≤◌, ◌-◌, ◌^�
 use Rattle.sdb_contents.specs.Types.{How, Reply, Request, Table, TableName}
 use Rattle.sdb_types.specs.declared.record.Reply.TheVariants as reply
 use Rattle.sdb_stores.specs.Views.{Attached, StoreView as Counted, AreDistinct, AreUnchanged, HaveRisen, IsCallAt, home_in, names_of, place_of, route_of, total_faults}
-use Rattle.sdb_model.specs.declared.event.How.TheVariants.{Seen, Lost, Broken, Discarded}
+use Rattle.sdb_model.specs.declared.event.How.TheVariants.{Seen, Lost, Broken, Discarded, Delayed}
 use Rattle.sdb_model.specs.Events.{StoreContents, IsCall, store_of, table_asked}
 use Rattle.sdb_contents.specs.declared.refused.CallRefused.{CallRefused}
 use Rattle.sdb_contents.specs.declared.refused.CallRefused.TheVariants as refused
@@ -97,9 +97,11 @@ IsCalled q r old new = IsMade q (how_seen r) r old new
 abbrev pub IsOneCall : Request → Reply → Attached → Attached → Type 0
 IsOneCall q r old new = IsCallAt (home_in old (table_asked q).ns) q r old new
 
--- A request was delivered: by one call whose reply is handed on; by one whose reply is lost, whatever it was; or not at all.
+-- A request was delivered: by one call whose reply is handed on; by one whose reply is lost, whatever it was; or not at all,
+-- or not yet.
 abbrev pub IsDelivered : Request → How → Reply → Attached → Attached → Type 0
 IsDelivered q Seen r old new = IsOneCall q r old new
 IsDelivered q Broken r old new = IsOneCall q r old new
 IsDelivered q Lost r old new = (real : Reply) × IsOneCall q real old new
 IsDelivered q Discarded r old new = AreUnchanged old new
+IsDelivered q Delayed r old new = AreUnchanged old new

@@ -135,7 +135,7 @@ fn seen(
     }
 }
 
-/// What a store contains after a call, or none where it doesn't reply so. That the store itself failed counts as no reply.
+/// What a store contains after a call or a landing, or none where it doesn't reply so. That the store itself failed counts as no reply.
 pub fn performed(
     alloc: Global,
     request: &Request,
@@ -146,7 +146,7 @@ pub fn performed(
     match (how, reply) {
         (How::Seen, reply) => seen(alloc, request, reply, rows),
         (How::Lost, Reply::Fault) => Ok(Some(after(alloc, request, rows)?)),
-        (How::Discarded, Reply::Fault) => Ok(Some(copied(alloc, rows)?)),
+        (How::Discarded | How::Delayed, Reply::Fault) => Ok(Some(copied(alloc, rows)?)),
         _ => Ok(None),
     }
 }

@@ -112,15 +112,19 @@ fn is_own_store(
     }
 }
 
-// What the stores contain after a call, or none where none of them replies so.
+// What the stores contain after a call or a landing, or none where none of them replies so.
 fn called(
     alloc: Global,
+    places: &[Place],
     before: &[StoreContents],
     store: &Name,
     request: &Request,
     how: How,
     reply: &Reply,
 ) -> Result<Option<Shelves>, NoMemory> {
+    if !is_own_store(places, before, store, request) {
+        return Ok(None);
+    }
     let Some(rows) = rows_of(before, store) else {
         return Ok(None);
     };
@@ -137,13 +141,15 @@ fn shelves_after(
     event: &Event,
     before: &[StoreContents],
 ) -> Result<Option<Shelves>, NoMemory> {
-    let Event::Call(_, store, request, how, reply, _) = event else {
-        return Ok(Some(contents_copied(alloc, before)?));
-    };
-    if !is_own_store(places, before, store, request) {
-        return Ok(None);
+    match event {
+        Event::Call(_, store, request, how, reply, _) => {
+            called(alloc, places, before, store, request, *how, reply)
+        }
+        Event::Land(_, store, request, how, reply) => {
+            called(alloc, places, before, store, request, *how, reply)
+        }
+        _ => Ok(Some(contents_copied(alloc, before)?)),
     }
-    called(alloc, before, store, request, *how, reply)
 }
 
 // Adds what the stores contain after each event. Whether the events agree with them.

@@ -62,8 +62,8 @@ bad_table t = option_map (λ r. (t.0, r)) (refusal_in (checked_table (table_of t
 
 -- what is given of the first table of which something is given
 abbrev pub first_given : {A B : Type 0} → (A → Option B) → List A → Option B
-first_given said [] = None
-first_given said (t ∷ ts) = option_or (said t) (first_given said ts)
+first_given given [] = None
+first_given given (t ∷ ts) = option_or (given t) (first_given given ts)
 
 abbrev pub refuse : {A B : Type 0} → Option A → (A → SchemaFault) → Result B SchemaFault → Result B SchemaFault
 refuse None refusal next = next

@@ -50,7 +50,7 @@ each_item test (item d ds) = test d && each_item test ds
 
 -- an array, each of whose entries says something
 abbrev pub is_array_of : {A : Type 0} → (Data → Option A) → Data → Bool
-is_array_of said d = option_map_or (each_item (λ e. is_some (said e))) (as_array d) false
+is_array_of given d = option_map_or (each_item (λ e. is_some (given e))) (as_array d) false
 
 abbrev pub each_named : Members → Bool
 each_named no_members = true

@@ -91,10 +91,14 @@ observed_unmet id key found (ask.DeleteIf k condition) r p h = clash (sym p)
 
 ---- contacts
 
--- an event that is a contact is a call
-pub call_of : (e : Event) (c : Contact) → contact_of e ≡ Some c → (client : ℕ) × (answer : Option Answer) × (e ≡ event.Call client c.store c.request c.how c.reply answer)
+-- An event that is a contact is a call, or else the landing of a request.
+abbrev pub IsCallOrLanding : Event → Contact → Type 0
+IsCallOrLanding e c = ((client : ℕ) × (answer : Option Answer) × (e ≡ event.Call client c.store c.request c.how c.reply answer)) ⊎ ((number : ℕ) × (e ≡ event.Land number c.store c.request c.how c.reply))
+
+pub call_of : (e : Event) (c : Contact) → contact_of e ≡ Some c → IsCallOrLanding e c
 call_of (event.Take client text answer) c h = none_some c h
-call_of (event.Call client store q how r answer) c h = (client, answer, ap (λ (x : Contact). event.Call client x.store x.request x.how x.reply answer) (some_is (record { store = store; request = q; how = how; reply = r }) c h))
+call_of (event.Call client store q how r answer) c h = inl (client, answer, ap (λ (x : Contact). event.Call client x.store x.request x.how x.reply answer) (some_is (record { store = store; request = q; how = how; reply = r }) c h))
 call_of (event.Stop client) c h = none_some c h
 call_of (event.Clock moment) c h = none_some c h
 call_of (event.Idle client) c h = none_some c h
+call_of (event.Land number store q how r) c h = inr (number, ap (λ (x : Contact). event.Land number x.store x.request x.how x.reply) (some_is (record { store = store; request = q; how = how; reply = r }) c h))

@@ -16,7 +16,7 @@ use Rattle.sdb_model.specs.declared.answer.Answer.TheVariants as answer
 use Rattle.sdb_model.specs.declared.event.Event.{Event}
 use Rattle.sdb_model.specs.declared.event.Event.TheVariants as event
 use Rattle.sdb_model.specs.declared.event.How.{How}
-use Rattle.sdb_model.specs.declared.event.How.TheVariants.{Seen, Lost, Discarded, Broken}
+use Rattle.sdb_model.specs.declared.event.How.TheVariants.{Seen, Lost, Discarded, Delayed, Broken}
 use Rattle.sdb_model.specs.Sql.{reads_commit, reads_vacuum}
 use Rattle.sdb_model.specs.Transactions.{Executed, statements_by, client_of, commit_of, prepares}
 use Rattle.sdb_model.specs.Calls.{StoreCall, calls_of, calls_after, decision_observed, is_removal, key_asked, records_read}
@@ -30,6 +30,7 @@ abbrev pub is_seen : How → Bool
 is_seen Seen = true
 is_seen Lost = false
 is_seen Discarded = false
+is_seen Delayed = false
 is_seen Broken = false
 
 -- its prepares
@@ -122,8 +123,9 @@ AreResolved events = (client : ℕ) (s : Executed) (m : StoreCall) (r : Record) 
 
 abbrev pub is_broken : Event → Bool
 is_broken (event.Call client store q Broken r answer) = true
+is_broken (event.Land number store q Broken r) = true
 is_broken e = false
 
--- how many calls the stores themselves failed
+-- how many calls and landings the stores themselves failed
 abbrev pub broken_in : List Event → ℕ
 broken_in events = count_by is_broken events

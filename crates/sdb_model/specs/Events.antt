@@ -8,7 +8,7 @@ use Rattle.sdb_types.specs.Contents.{Contents, record_at, apply, after}
 use Rattle.sdb_model.specs.declared.event.Event.{Event}
 use Rattle.sdb_model.specs.declared.event.Event.TheVariants as event
 use Rattle.sdb_model.specs.declared.event.How.{How}
-use Rattle.sdb_model.specs.declared.event.How.TheVariants.{Seen, Lost, Discarded, Broken}
+use Rattle.sdb_model.specs.declared.event.How.TheVariants.{Seen, Lost, Discarded, Delayed, Broken}
 use Rattle.sdb_model.specs.Rows.{Name, same_name}
 
 -- The tables of a script after so many of its events: those of its catalog, since no event changes them.
@@ -47,12 +47,13 @@ table_asked (ask.PutIf rec condition) = rec.key.table
 table_asked (ask.DeleteIf key condition) = key.table
 
 -- What a call does to its store. Seen: the store's reply and its effect, or out of memory and no effect. Lost: the
--- effect, and a fault for the client. Discarded: no effect, and a fault. Broken: the store itself failed, with its
--- effect or without.
+-- effect, and a fault for the client. Discarded and Delayed: no effect, and a fault. Broken: the store itself failed, with
+-- its effect or without.
 abbrev pub IsPerformed : Request → How → Reply → Contents → Contents → Type 0
 IsPerformed q Seen r before now = (apply q before ≡ (r, now)) ⊎ (r ≡ reply.NoMemory) × (now ≡ before)
 IsPerformed q Lost r before now = (r ≡ reply.Fault) × (now ≡ after q before)
 IsPerformed q Discarded r before now = (r ≡ reply.Fault) × (now ≡ before)
+IsPerformed q Delayed r before now = (r ≡ reply.Fault) × (now ≡ before)
 IsPerformed q Broken r before now = (r ≡ reply.Fault) × ((now ≡ before) ⊎ (now ≡ after q before))
 
 -- One call: it goes to the store of its table, does to it what its request, how and reply say, and leaves every other
@@ -72,13 +73,14 @@ pub record Contact : Type 0 where
   pub how : How
   pub reply : Reply
 
--- the contact with a store that an event is: only a call is one
+-- the contact with a store that an event is: only a call and a landing are one
 abbrev pub contact_of : Event → Option Contact
 contact_of (event.Take client text answer) = None
 contact_of (event.Call client store q how r answer) = Some (record { store = store; request = q; how = how; reply = r })
 contact_of (event.Stop client) = None
 contact_of (event.Clock moment) = None
 contact_of (event.Idle client) = None
+contact_of (event.Land number store q how r) = Some (record { store = store; request = q; how = how; reply = r })
 
 -- The effect of a contact on what the stores hold: without one they hold what they held.
 abbrev pub EffectOf : List Place → Option Contact → List StoreContents → List StoreContents → Type 0

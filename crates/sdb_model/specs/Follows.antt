@@ -1,13 +1,14 @@
 -- Which events follow a script: those of its moves, in order.
-use Rattle.std.specs.Prelude.{◌≡◌, ◌⊎◌, ℕ, zero, suc, ◌+◌, ◌≤◌, ◌<◌, Bool, true, false, not, ◌&&◌, ◌||◌, ◌==◌, nat_lt, if◌then◌else◌, MatchBool, List, [], ◌∷◌, ◌++◌, length, Some, is_none, fold, slice_get}
+use Rattle.std.specs.Prelude.{◌≡◌, ◌⊎◌, ℕ, zero, suc, ◌+◌, ◌≤◌, ◌<◌, Bool, true, false, not, ◌&&◌, ◌||◌, ◌==◌, nat_lt, if◌then◌else◌, MatchBool, List, [], ◌∷◌, ◌++◌, length, Option, Some, None, is_none, fold, slice_get}
 use Rattle.std.specs.Option.{option_map_or}
-use Rattle.std.specs.List.{list_any, count_by}
+use Rattle.std.specs.List.{list_any, count_by, filter_map}
+use Rattle.sdb_model.specs.Types.{Request}
 use Rattle.sdb_types.specs.declared.record.Reply.{Reply}
 use Rattle.sdb_types.specs.declared.record.Reply.TheVariants as reply
 use Rattle.sdb_model.specs.declared.event.Event.{Event}
 use Rattle.sdb_model.specs.declared.event.Event.TheVariants as event
 use Rattle.sdb_model.specs.declared.event.How.{How}
-use Rattle.sdb_model.specs.declared.event.How.TheVariants.{Seen, Lost, Discarded, Broken}
+use Rattle.sdb_model.specs.declared.event.How.TheVariants.{Seen, Lost, Discarded, Delayed, Broken}
 use Rattle.sdb_model.specs.declared.script.Act.{Act}
 use Rattle.sdb_model.specs.declared.script.Act.TheVariants as act
 use Rattle.sdb_model.specs.declared.script.Move.{Move}
@@ -56,21 +57,26 @@ has_work clients client past = not (has_stopped client past) && (is_pending clie
 
 -- Which hows a call of an act may have, and with which replies. A step's reply is seen, unless it is a fault: then the store
 -- itself failed. A lost reply is lost, and its client has a fault, unless the store itself fails or is out of memory. A discarded
--- call is never made, and its client has a fault.
+-- call is never made, and a delayed one not yet: their client has a fault.
 abbrev pub IsHowOfStep : How → Reply → Type 0
 IsHowOfStep Seen r = is_fault r ≡ false
 IsHowOfStep Broken r = r ≡ reply.Fault
 IsHowOfStep Lost r = ⊥
 IsHowOfStep Discarded r = ⊥
+IsHowOfStep Delayed r = ⊥
 
 abbrev pub IsHowOfLose : How → Reply → Type 0
 IsHowOfLose Lost r = r ≡ reply.Fault
 IsHowOfLose Broken r = r ≡ reply.Fault
 IsHowOfLose Seen r = r ≡ reply.NoMemory
 IsHowOfLose Discarded r = ⊥
+IsHowOfLose Delayed r = ⊥
 
 abbrev pub IsHowOfDiscard : How → Reply → Type 0
 IsHowOfDiscard how r = (how ≡ Discarded) × (r ≡ reply.Fault)
+
+abbrev pub IsHowOfDelay : How → Reply → Type 0
+IsHowOfDelay how r = (how ≡ Delayed) × (r ≡ reply.Fault)
 
 -- The event is one call of the client, with a how that is allowed.
 abbrev pub IsCallOf : ℕ → (How → Reply → Type 0) → Event → Type 0
@@ -90,11 +96,41 @@ IsStep clients client allowed past e =
     (MatchBool (is_pending client past) (IsCallOf client allowed e) (IsTakeOf clients client past e))
     (e ≡ event.Idle client)
 
+---- requests in flight
+
+-- the request of a call that was delayed
+abbrev pub delayed_by : Event → Option Request
+delayed_by (event.Call client store q Delayed r answer) = Some q
+delayed_by _ = None
+
+abbrev pub lands : ℕ → Event → Bool
+lands number (event.Land n store q how r) = n == number
+lands number _ = false
+
+-- the request of the k-th call that was delayed, k from 1
+abbrev pub delayed_at : ℕ → List Event → Option Request
+delayed_at zero past = None
+delayed_at (suc k) past = slice_get (filter_map delayed_by past) k
+
+-- Request k is in flight from the k-th call that was delayed until a landing of k.
+abbrev pub in_flight : ℕ → List Event → Option Request
+in_flight k past = if list_any (lands k) past then None else delayed_at k past
+
+-- The event lands request k. Where none is in flight it is idle.
+abbrev pub IsLanding : ℕ → Option Request → Event → Type 0
+IsLanding k None e = e ≡ event.Idle 0
+IsLanding k (Some q) (event.Land n store request how r) = (n ≡ k) × (request ≡ q) × IsHowOfStep how r
+IsLanding k (Some q) _ = ⊥
+
+---- acts
+
 -- The event is what an act gives after the events so far.
 abbrev pub IsActed : List ScriptClient → Act → List Event → Event → Type 0
 IsActed clients (act.Step client) past e = IsStep clients client IsHowOfStep past e
 IsActed clients (act.Lose client) past e = IsStep clients client IsHowOfLose past e
 IsActed clients (act.Discard client) past e = IsStep clients client IsHowOfDiscard past e
+IsActed clients (act.Delay client) past e = IsStep clients client IsHowOfDelay past e
+IsActed clients (act.Land k) past e = IsLanding k (in_flight k past) e
 IsActed clients (act.Stop client) past e = e ≡ event.Stop client
 IsActed clients (act.Clock moment) past e = e ≡ event.Clock moment
 

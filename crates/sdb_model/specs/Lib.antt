@@ -16,6 +16,7 @@ pub mod Causes
 pub mod DirtyReads
 pub mod Counted
 pub mod Explained
+pub mod InFlight
 pub mod Form
 pub mod SqlTokens
 pub mod Sql

@@ -1,5 +1,5 @@
 -- Plain outcomes: those that a report shows in full, so that no two of them have one report.
-use Rattle.std.specs.Prelude.{◌≡◌, ◌<◌, ◌^◌, ◌==◌, ℕ, Bool, true, not, ◌&&◌, List, [], ◌∷◌, length, All, Option, IfSome, FitsSigned, slice_get, Some}
+use Rattle.std.specs.Prelude.{◌≡◌, ◌⊎◌, ◌<◌, ◌^◌, ◌==◌, ℕ, Bool, true, not, ◌&&◌, List, [], ◌∷◌, length, All, Option, IfSome, FitsSigned, slice_get, Some}
 use Rattle.std.specs.Int.{w64}
 use Rattle.std.specs.List.{list_all}
 use Rattle.std.specs.Ordering.{is_lt}
@@ -16,6 +16,7 @@ use Rattle.sdb_model.specs.declared.answer.Answer.TheVariants as answer
 use Rattle.sdb_model.specs.declared.answer.Refusal.{Refusal}
 use Rattle.sdb_model.specs.declared.event.Event.{Event}
 use Rattle.sdb_model.specs.declared.event.Event.TheVariants as event
+use Rattle.sdb_model.specs.declared.event.How.TheVariants.{Seen, Broken}
 use Rattle.sdb_model.specs.declared.event.Outcome.{Outcome}
 use Rattle.sdb_model.specs.declared.event.Point.{Point}
 use Rattle.sdb_model.specs.declared.event.TableDump.{TableDump}
@@ -95,7 +96,8 @@ IsPlainGiven given = IfSome given IsPlainAnswer
 
 ---- events
 
--- the parts of an event, each with what its type keeps, and each Conflict with a record of its own key
+-- the parts of an event, each with what its type keeps, each Conflict with a record of its own key, and each landing as a store
+-- answers it
 abbrev pub HasPlainParts : Event → Type 0
 HasPlainParts (event.Take client text given) = (client < 2 ^ 32) × IsUtf8 text × IsPlainGiven given
 HasPlainParts (event.Call client store request how reply given) =
@@ -103,6 +105,8 @@ HasPlainParts (event.Call client store request how reply given) =
 HasPlainParts (event.Stop client) = client < 2 ^ 32
 HasPlainParts (event.Clock moment) = FitsSigned w64 moment
 HasPlainParts (event.Idle client) = client < 2 ^ 32
+HasPlainParts (event.Land number store request how reply) =
+    (number < 2 ^ 32) × (is_name store ≡ true) × request_is_plain request × reply_is_plain reply × ((how ≡ Seen) ⊎ (how ≡ Broken))
 
 abbrev pub is_no_lf : ℕ → Bool
 is_no_lf b = not (b == 10)

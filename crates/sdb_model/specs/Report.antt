@@ -14,7 +14,7 @@ use Rattle.sdb_model.specs.declared.answer.Answer.{Answer}
 use Rattle.sdb_model.specs.declared.event.Event.{Event}
 use Rattle.sdb_model.specs.declared.event.Event.TheVariants as event
 use Rattle.sdb_model.specs.declared.event.How.{How}
-use Rattle.sdb_model.specs.declared.event.How.TheVariants.{Seen, Lost, Discarded, Broken}
+use Rattle.sdb_model.specs.declared.event.How.TheVariants.{Seen, Lost, Discarded, Delayed, Broken}
 use Rattle.sdb_model.specs.declared.event.Outcome.{Outcome}
 use Rattle.sdb_model.specs.declared.event.Point.{Point}
 use Rattle.sdb_model.specs.declared.event.TableDump.{TableDump}
@@ -41,6 +41,7 @@ abbrev pub how_text_of : How → List ℕ
 how_text_of Seen = codes "seen"
 how_text_of Lost = codes "lost"
 how_text_of Discarded = codes "dropped"
+how_text_of Delayed = codes "delayed"
 how_text_of Broken = codes "failed"
 
 -- a record that was found, or none
@@ -69,9 +70,17 @@ take_text_of client text given = codes "take " ++ decimal client ++ codes " " ++
 abbrev pub asked_text_of : ℕ → List ℕ → Request → List ℕ
 asked_text_of client store request = codes "call " ++ decimal client ++ codes " " ++ store ++ codes " " ++ request_text_of request
 
+-- what became of a request, and the reply
+abbrev pub effect_text_of : How → Reply → List ℕ
+effect_text_of how reply = codes " " ++ how_text_of how ++ codes " " ++ reply_text_of reply
+
 -- what became of a call, what the client was handed, and the answer that came of it
 abbrev pub came_text_of : How → Reply → Option Answer → List ℕ
 came_text_of how reply given = codes " " ++ how_text_of how ++ codes " " ++ reply_text_of reply ++ codes " " ++ given_text_of given
+
+-- which request landed, on which store
+abbrev pub landed_text_of : ℕ → List ℕ → Request → List ℕ
+landed_text_of number store request = codes "land " ++ decimal number ++ codes " " ++ store ++ codes " " ++ request_text_of request
 
 -- the line of an event, but for its number
 abbrev pub event_text_of : Event → List ℕ
@@ -80,6 +89,7 @@ event_text_of (event.Call client store request how reply given) = asked_text_of 
 event_text_of (event.Stop client) = codes "stop " ++ decimal client
 event_text_of (event.Clock moment) = codes "clock " ++ signed_decimal moment
 event_text_of (event.Idle client) = codes "idle " ++ decimal client
+event_text_of (event.Land number store request how reply) = landed_text_of number store request ++ effect_text_of how reply
 
 ---- lines
 

@@ -13,11 +13,14 @@ pub enum How {
     Lost,
     /// The call wasn't made, and the client was handed a fault.
     Discarded,
+    /// The call wasn't made yet, and the client was handed a fault: its request is in flight from then on.
+    Delayed,
     /// The store itself failed: the call had its whole effect or none.
     Broken,
 }
 
-/// One step of one client, or a stop, a move of the clock or an idle step. Clients are numbered from 1.
+/// One step of one client, or a stop, a move of the clock, an idle step or the landing of a late request. Clients are numbered
+/// from 1.
 #[derive(Debug, PartialEq, Eq)]
 pub enum Event {
     /// A client takes a statement, answered at once or not.
@@ -28,8 +31,10 @@ pub enum Event {
     Stop(u32),
     /// The clock shows this moment, in milliseconds.
     Clock(i64),
-    /// A client that is stopped, or has nothing to do, was to take a step.
+    /// A client that is stopped, or has nothing to do, was to take a step. Of client 0: a request was to land that isn't in flight.
     Idle(u32),
+    /// The request of the delayed call of this number, from 1, takes effect on the store of this name. Nobody gets the reply.
+    Land(u32, Name, Request, How, Reply),
 }
 
 // By hand: each drop is then one call, where a derived one is written out at each exit, with a call for each field.
@@ -41,6 +46,7 @@ impl Drop for Event {
             Event::Stop(_) => {}
             Event::Clock(_) => {}
             Event::Idle(_) => {}
+            Event::Land(_, _, _, _, _) => {}
         }
     }
 }
@@ -90,6 +96,13 @@ impl Duplicate for Event {
             Event::Stop(client) => Ok(Event::Stop(*client)),
             Event::Clock(moment) => Ok(Event::Clock(*moment)),
             Event::Idle(client) => Ok(Event::Idle(*client)),
+            Event::Land(number, store, request, how, reply) => Ok(Event::Land(
+                *number,
+                store.copy()?,
+                request.copy()?,
+                *how,
+                reply.copy()?,
+            )),
         }
     }
 }

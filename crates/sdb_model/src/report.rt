@@ -2,7 +2,7 @@
 ghost use Rattle.std.specs.Prelude.{◌≡◌, ◌++◌, OnOk, IfOk, decimal};
 ghost use Rattle.std.specs.List.{flat_map};
 ghost use Rattle.std.specs.String.{string_bytes};
-ghost use Rattle.sdb_model.specs.Report.{given_text_of, condition_text_of, request_text_of, how_text_of, found_text_of, records_text_of, reply_text_of, take_text_of, asked_text_of, came_text_of, event_text_of, event_line, event_lines, point_line, row_line, table_lines, heading, events_text_of, order_text_of, tables_text_of, report_text_of};
+ghost use Rattle.sdb_model.specs.Report.{given_text_of, condition_text_of, request_text_of, how_text_of, found_text_of, records_text_of, reply_text_of, take_text_of, asked_text_of, came_text_of, effect_text_of, landed_text_of, event_text_of, event_line, event_lines, point_line, row_line, table_lines, heading, events_text_of, order_text_of, tables_text_of, report_text_of};
 
 use crate::text::{
     put_answer, put_id, put_key, put_number, put_record, put_row, put_signed, put_span, put_table,
@@ -70,6 +70,7 @@ fn put_how(out: &mut String, how: How) -> Result<(), NoMemory>
         How::Seen => out.push_str("seen")?,
         How::Lost => out.push_str("lost")?,
         How::Discarded => out.push_str("dropped")?,
+        How::Delayed => out.push_str("delayed")?,
         How::Broken => out.push_str("failed")?,
     }
     Ok(())
@@ -148,6 +149,32 @@ fn put_asked(out: &mut String, client: u32, store: &Name, request: &Request) -> 
     put_request(out, request)
 }
 
+fn put_landed(
+    out: &mut String,
+    number: u32,
+    store: &Name,
+    request: &Request,
+) -> Result<(), NoMemory>
+    ensures { OnOk result (string_bytes out.new ≡ string_bytes out.old ++ landed_text_of number store.now request.now) }
+{
+    out.push_str("land ")?;
+    put_number(out, u64::from(number))?;
+    out.push_str(" ")?;
+    out.push_str(store.as_str())?;
+    out.push_str(" ")?;
+    put_request(out, request)
+}
+
+// What became of a request, and the store's reply.
+fn put_effect(out: &mut String, how: How, reply: &Reply) -> Result<(), NoMemory>
+    ensures { OnOk result (string_bytes out.new ≡ string_bytes out.old ++ effect_text_of how reply.now) }
+{
+    out.push_str(" ")?;
+    put_how(out, how)?;
+    out.push_str(" ")?;
+    put_reply(out, reply)
+}
+
 // The rest of a call's line, from what became of it on.
 fn put_outcome(
     out: &mut String,
@@ -157,10 +184,7 @@ fn put_outcome(
 ) -> Result<(), NoMemory>
     ensures { OnOk result (string_bytes out.new ≡ string_bytes out.old ++ came_text_of how reply.now given.now) }
 {
-    out.push_str(" ")?;
-    put_how(out, how)?;
-    out.push_str(" ")?;
-    put_reply(out, reply)?;
+    put_effect(out, how, reply)?;
     out.push_str(" ")?;
     put_given(out, given)
 }
@@ -187,6 +211,10 @@ fn put_event(out: &mut String, event: &Event) -> Result<(), NoMemory>
             put_signed(out, *moment)
         }
         Event::Idle(client) => put_with_client(out, "idle ", *client),
+        Event::Land(number, store, request, how, reply) => {
+            put_landed(out, *number, store, request)?;
+            put_effect(out, *how, reply)
+        }
     }
 }
 

@@ -26,6 +26,10 @@ pub enum Act {
     Lose(u32),
     /// A step whose call isn't made and is answered by a fault.
     Discard(u32),
+    /// A step whose call isn't made yet and is answered by a fault: its request goes into flight.
+    Delay(u32),
+    /// The request of the delayed call of this number, from 1, takes effect, where it is in flight.
+    Land(u32),
     Stop(u32),
     Clock(i64),
 }

@@ -51,12 +51,12 @@ pub recover_nearer : (rec : Record) (meta : Meta) (p : RecoverPhase) (now : ℤ)
 recover_nearer rec meta p now r =
     by_rows rec meta now (λ p r n. is_some (recover_request_at rec meta p) ≡ true → IsNearer (calls_left p) n)
     (record {
-      look_row = λ row e. row_nearer meta row 4 (omega arith);
+      look_row = λ found e. row_nearer meta found 4 (omega arith);
       look_none = λ e. by_expiry meta now (IsNearer 4) (λ is. omega arith) (λ is. omega arith);
       abort_applied = λ m e. omega arith;
-      abort_row = λ m row e. row_nearer meta row 3 (omega arith);
+      abort_row = λ m found e. row_nearer meta found 3 (omega arith);
       abort_fault = λ m e. omega arith;
-      again_row = λ row e. row_nearer meta row 2 (omega arith);
+      again_row = λ found e. row_nearer meta found 2 (omega arith);
       again_none = λ e. omega arith;
       forward = λ at r is e. omega arith;
       back = λ r is e. omega arith;

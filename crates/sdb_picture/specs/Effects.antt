@@ -1,4 +1,4 @@
--- What calls do to records, as far as a report says it.
+-- What calls and landings do to records, as far as a report says it.
 use Rattle.std.specs.Prelude.{Bool, true, false, not, ◌&&◌, if◌then◌else◌, Option, Some, None}
 use Rattle.sdb_types.specs.Order.{same_key}
 use Rattle.sdb_picture.specs.Types.{Condition, How, Key, Record, Reply, Request}
@@ -11,7 +11,7 @@ use Rattle.sdb_record.specs.Meta.{id_in, is_in}
 use Rattle.sdb_record.specs.Moved.{same_version}
 use Rattle.sdb_record.specs.Rolls.{is_tombstone}
 use Rattle.sdb_model.specs.Rows.{Name, same_name}
-use Rattle.sdb_model.specs.declared.event.How.TheVariants.{Seen, Lost, Discarded, Broken}
+use Rattle.sdb_model.specs.declared.event.How.TheVariants.{Seen, Lost, Discarded, Delayed, Broken}
 use Rattle.sdb_picture.specs.declared.effect.Effect.{Effect}
 use Rattle.sdb_picture.specs.declared.effect.Effect.TheVariants as effect
 use Rattle.sdb_picture.specs.declared.effect.Stage.{Stage}
@@ -31,11 +31,12 @@ effect_seen reply.Fault = effect.Nothing
 effect_seen reply.NoMemory = effect.Nothing
 
 -- What a reply says by itself. A lost call was made, and a failed one had its whole effect or none: the reply doesn't say whether the
--- condition held. A dropped call was not made.
+-- condition held. A dropped call was not made, and a delayed one not yet.
 abbrev pub effect_of : How → Reply → Effect
 effect_of Seen r = effect_seen r
 effect_of Lost r = effect.Doubtful
 effect_of Discarded r = effect.Nothing
+effect_of Delayed r = effect.Nothing
 effect_of Broken r = effect.Doubtful
 
 abbrev pub may_change : Effect → Bool

@@ -5,7 +5,7 @@ use Rattle.sdb_picture.specs.Types.{Event, How, Key, Record, Reply, Request}
 use Rattle.sdb_types.specs.declared.record.Request.TheVariants as ask
 use Rattle.sdb_model.specs.Rows.{Name}
 use Rattle.sdb_model.specs.declared.event.Event.TheVariants as event
-use Rattle.sdb_model.specs.declared.event.How.TheVariants.{Seen, Lost, Discarded, Broken}
+use Rattle.sdb_model.specs.declared.event.How.TheVariants.{Seen, Lost, Discarded, Delayed, Broken}
 use Rattle.sdb_picture.specs.declared.effect.Effect.{Effect}
 use Rattle.sdb_picture.specs.declared.effect.Effect.TheVariants as effect
 use Rattle.sdb_picture.specs.Effects.{effect_seen, may_change, writes_at}
@@ -43,11 +43,12 @@ effect_lost true met = if met then effect.Sure else effect.Nothing
 abbrev pub effect_failed : Bool → Bool → Effect
 effect_failed sure met = if sure && not met then effect.Nothing else effect.Doubtful
 
--- Whether a write took effect where this was at its key. A dropped one was not made.
+-- Whether a write took effect where this was at its key. A dropped one was not made, and a delayed one not yet.
 abbrev pub effect_in : Known → Request → How → Reply → Effect
 effect_in k request Seen r = effect_seen r
 effect_in k request Lost r = effect_lost k.sure (is_met request k.found)
 effect_in k request Discarded r = effect.Nothing
+effect_in k request Delayed r = effect.Nothing
 effect_in k request Broken r = effect_failed k.sure (is_met request k.found)
 
 -- what is known after it
@@ -58,13 +59,17 @@ after k request effect.Nothing = k
 
 ---- events
 
+-- and after a call or a landing on a store, which may write another record
+abbrev pub written : Name → Key → Known → Name → Request → How → Reply → Known
+written store key k at request how r = if writes_at at request store key then after k request (effect_in k request how r) else k
+
 abbrev pub left_by : Name → Key → Known → Event → Known
 left_by store key k (event.Take client text given) = k
-left_by store key k (event.Call client at request how r given) =
-    if writes_at at request store key then after k request (effect_in k request how r) else k
+left_by store key k (event.Call client at request how r given) = written store key k at request how r
 left_by store key k (event.Stop client) = k
 left_by store key k (event.Clock moment) = k
 left_by store key k (event.Idle client) = k
+left_by store key k (event.Land number at request how r) = written store key k at request how r
 
 -- Nothing is there before the first event.
 abbrev pub known_after : Name → Key → List Event → Known
@@ -78,6 +83,8 @@ changes k store key (event.Call client at request how r given) =
 changes k store key (event.Stop client) = false
 changes k store key (event.Clock moment) = false
 changes k store key (event.Idle client) = false
+changes k store key (event.Land number at request how r) =
+    writes_at at request store key && may_change (effect_in k request how r)
 
 -- how many events come before the first that changes what is known of a record
 abbrev pub next_change : Known → Name → Key → List Event → Option ℕ

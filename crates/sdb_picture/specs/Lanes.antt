@@ -13,13 +13,14 @@ use Rattle.sdb_picture.specs.Effects.{band_begun, effect_of}
 abbrev pub with_client : List ℕ → ℕ → List ℕ
 with_client clients client = if is_some (position (λ c. c == client) clients) then clients else clients ++ client ∷ []
 
--- the client of an event, after those of the events before, unless it is among them
+-- The client of an event, after those of the events before, unless it is among them. No client is 0, and none lands a request.
 abbrev pub with_client_of : List ℕ → Event → List ℕ
 with_client_of clients (event.Take client text given) = with_client clients client
 with_client_of clients (event.Call client store request how reply given) = with_client clients client
 with_client_of clients (event.Stop client) = with_client clients client
 with_client_of clients (event.Clock moment) = clients
-with_client_of clients (event.Idle client) = with_client clients client
+with_client_of clients (event.Idle client) = if client == 0 then clients else with_client clients client
+with_client_of clients (event.Land number store request how reply) = clients
 
 abbrev pub clients_of : List Event → List ℕ
 clients_of events = fold with_client_of [] events
@@ -35,6 +36,7 @@ with_store_of stores (event.Call client store request how reply given) = with_st
 with_store_of stores (event.Stop client) = stores
 with_store_of stores (event.Clock moment) = stores
 with_store_of stores (event.Idle client) = stores
+with_store_of stores (event.Land number store request how reply) = with_store stores store
 
 abbrev pub stores_of : List Event → List Name
 stores_of events = fold with_store_of [] events
@@ -60,13 +62,15 @@ with_record_of records (event.Call client store request how reply given) =
 with_record_of records (event.Stop client) = records
 with_record_of records (event.Clock moment) = records
 with_record_of records (event.Idle client) = records
+with_record_of records (event.Land number store request how reply) =
+    with_begun records store (band_begun request (effect_of how reply))
 
 abbrev pub records_of : List Event → List Place
 records_of events = fold with_record_of [] events
 
 ---- lanes
 
--- Each client of an event, each store of a call, and each record that a put may have left has one lane.
+-- Each client of an event, each store of a call or a landing, and each record that a put may have left has one lane.
 abbrev pub lanes_of : List Event → Lanes
 lanes_of events = record { clients = clients_of events; stores = stores_of events; records = records_of events }
 

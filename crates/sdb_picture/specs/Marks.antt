@@ -1,5 +1,5 @@
 -- What is drawn of a report: for each event its marks, each with its row, its lane and its label, and a mark for each point.
-use Rattle.std.specs.Prelude.{ℕ, ℤ, ◌+◌, nat_lt, if◌then◌else◌, List, [], ◌∷◌, ◌++◌, length, take, codes, decimal, Option, Some, None}
+use Rattle.std.specs.Prelude.{ℕ, ℤ, ◌+◌, ◌==◌, nat_lt, if◌then◌else◌, List, [], ◌∷◌, ◌++◌, length, take, codes, decimal, Option, Some, None}
 use Rattle.std.specs.Fmt.{signed_decimal}
 use Rattle.sdb_types.specs.TxId.{id_text}
 use Rattle.sdb_picture.specs.Types.{Answer, Condition, Event, How, Outcome, Point, Record, Reply, Request}
@@ -9,7 +9,7 @@ use Rattle.sdb_model.specs.Report.{how_text_of}
 use Rattle.sdb_model.specs.Rows.{Name}
 use Rattle.sdb_model.specs.Texts.{answer_text_of, key_text_of, record_text_of, span_text_of}
 use Rattle.sdb_model.specs.declared.event.Event.TheVariants as event
-use Rattle.sdb_model.specs.declared.event.How.TheVariants.{Seen, Lost, Discarded, Broken}
+use Rattle.sdb_model.specs.declared.event.How.TheVariants.{Seen, Lost, Discarded, Delayed, Broken}
 use Rattle.sdb_picture.specs.declared.effect.Effect.{Effect}
 use Rattle.sdb_picture.specs.declared.effect.Stage.{Stage}
 use Rattle.sdb_picture.specs.declared.effect.Verdict.{Verdict}
@@ -32,8 +32,10 @@ pub data Mark : Type 0 where
   Decided : (row store : ℕ) → (verdict : Verdict) → (effect : Effect) → Mark
   -- a client that stops or idles
   Rested : (row client : ℕ) → (text : List ℕ) → Mark
-  -- a move of the clock
+  -- a move of the clock, or a landing of a request that isn't in flight
   Ticked : (row : ℕ) → (text : List ℕ) → Mark
+  -- a late request that lands on a store, what became of it, what it asks and what came of it
+  Landed : (row store : ℕ) → (how : How) → (asked came : List ℕ) → Mark
   -- the point of a recorded transaction, below the row of so many events, and its place in the order
   Pointed : (events place : ℕ) → (id : List ℕ) → Mark
 
@@ -49,11 +51,12 @@ reply_word (reply.NotMet found) = codes "not met"
 reply_word reply.Fault = codes "fault"
 reply_word reply.NoMemory = codes "no memory"
 
--- what came of a call, in a word: of a call that was seen its reply, and else what became of it
+-- what came of a call or a landing, in a word: of one that was seen its reply, and else what became of it
 abbrev pub came_word : How → Reply → List ℕ
 came_word Seen r = reply_word r
 came_word Lost r = how_text_of Lost
 came_word Discarded r = how_text_of Discarded
+came_word Delayed r = how_text_of Delayed
 came_word Broken r = how_text_of Broken
 
 abbrev pub decision_marks : Lanes → ℕ → Name → Record → Effect → List Mark
@@ -109,6 +112,23 @@ clock_text moment = codes "clock " ++ signed_decimal moment
 abbrev pub clock_marks : ℕ → ℤ → List Mark
 clock_marks row moment = Ticked row (clock_text moment) ∷ []
 
+-- an idle step of a client, or of none, where a request was to land that isn't in flight
+abbrev pub idle_text : ℕ → List ℕ
+idle_text client = if client == 0 then codes "nothing lands" else codes "idles"
+
+abbrev pub idle_marks : Lanes → ℕ → ℕ → List Mark
+idle_marks lanes row client =
+    if client == 0 then Ticked row (idle_text client) ∷ [] else Rested row (client_lane lanes client) (idle_text client) ∷ []
+
+-- what a late request asks for, after its number
+abbrev pub landed_text : ℕ → Request → List ℕ
+landed_text number request = codes "land " ++ decimal number ++ codes " " ++ asked_text request
+
+-- A landing is one arrow, from no client, to its store.
+abbrev pub landing_marks : Lanes → ℕ → ℕ → Name → Request → How → Reply → List Mark
+landing_marks lanes row number store request how reply =
+    Landed row (store_lane lanes store) how (landed_text number request) (came_word how reply) ∷ []
+
 -- The marks of an event, in its row. The events before it say whether a put took effect, and those after it how long a band lasts.
 abbrev pub marks_of : Lanes → List Event → ℕ → Event → List Event → List Mark
 marks_of lanes past row (event.Take client text given) rest = take_marks row (client_lane lanes client) text given
@@ -118,7 +138,9 @@ marks_of lanes past row (event.Call client store request how reply given) rest =
     ++ answer_marks row (client_lane lanes client) given
 marks_of lanes past row (event.Stop client) rest = Rested row (client_lane lanes client) (codes "stops") ∷ []
 marks_of lanes past row (event.Clock moment) rest = clock_marks row moment
-marks_of lanes past row (event.Idle client) rest = Rested row (client_lane lanes client) (codes "idles") ∷ []
+marks_of lanes past row (event.Idle client) rest = idle_marks lanes row client
+marks_of lanes past row (event.Land number store request how reply) rest =
+    landing_marks lanes row number store request how reply ++ effect_marks lanes past row store request how reply rest
 
 -- What is drawn of one event, under a title with its texts in full.
 pub record Group : Type 0 where
@@ -126,13 +148,14 @@ pub record Group : Type 0 where
   pub title : List ℕ
   pub marks : List Mark
 
--- the label of an event: the statement that is accepted, or what a call asks for
+-- the label of an event: the statement that is accepted, or what a call or a landing asks for
 abbrev pub event_text : Event → List ℕ
 event_text (event.Take client text given) = text
 event_text (event.Call client store request how reply given) = asked_text request
 event_text (event.Stop client) = codes "stops"
 event_text (event.Clock moment) = clock_text moment
-event_text (event.Idle client) = codes "idles"
+event_text (event.Idle client) = idle_text client
+event_text (event.Land number store request how reply) = landed_text number request
 
 abbrev pub given_text : Option Answer → List ℕ
 given_text None = []
@@ -145,6 +168,7 @@ answered_text (event.Call client store request how reply given) = given_text giv
 answered_text (event.Stop client) = []
 answered_text (event.Clock moment) = []
 answered_text (event.Idle client) = []
+answered_text (event.Land number store request how reply) = []
 
 -- the title of the event in a row, with its number
 abbrev pub title_of : ℕ → Event → List ℕ

@@ -5,7 +5,7 @@ use Rattle.sdb_model.specs.Report.{how_text_of}
 use Rattle.sdb_model.specs.Rows.{Name}
 use Rattle.sdb_model.specs.Texts.{key_text_of}
 use Rattle.sdb_model.specs.declared.event.How.{How}
-use Rattle.sdb_model.specs.declared.event.How.TheVariants.{Seen, Lost, Discarded, Broken}
+use Rattle.sdb_model.specs.declared.event.How.TheVariants.{Seen, Lost, Discarded, Delayed, Broken}
 use Rattle.sdb_picture.specs.declared.effect.Effect.{Effect}
 use Rattle.sdb_picture.specs.declared.effect.Effect.TheVariants as effect
 use Rattle.sdb_picture.specs.declared.effect.Stage.{Stage}
@@ -16,7 +16,7 @@ use Rattle.sdb_picture.specs.declared.heading.TheConstants.{LEGEND, STYLE}
 use Rattle.sdb_picture.specs.declared.lanes.Lanes.{Lanes}
 use Rattle.sdb_picture.specs.declared.lanes.Place.{Place}
 use Rattle.sdb_picture.specs.Labels.{escaped_text, label_text}
-use Rattle.sdb_picture.specs.Marks.{Mark, Statement, Arrow, Answered, Band, Decided, Rested, Ticked, Pointed, Group, Picture}
+use Rattle.sdb_picture.specs.Marks.{Mark, Statement, Arrow, Answered, Band, Decided, Rested, Ticked, Landed, Pointed, Group, Picture}
 use Rattle.sdb_picture.specs.Places.{answer_x, arrow_y, came_x, client_x, decision_x, height_of, label_x, letter_x, letter_y, record_x, row_y, statement_x, store_x, text_y, width_of}
 
 ---- texts
@@ -65,11 +65,12 @@ verdict_letter verdict.Aborted = codes "A"
 verdict_letter verdict.Other = codes "?"
 
 -- The tip of an arrow, from its end: a head where the call was made, full where the reply was seen, a cross where the call was
--- not made, and a square where the store failed.
+-- not made, or not yet, and a square where the store failed.
 abbrev pub tip_text : How → List ℕ
 tip_text Seen = codes "l-10,-5v10z"
 tip_text Lost = codes "l-10,-5v10z"
 tip_text Discarded = codes "m-12,-5l10,10m0,-10l-10,10"
+tip_text Delayed = codes "m-12,-5l10,10m0,-10l-10,10"
 tip_text Broken = codes "m-10,-5h10v10h-10z"
 
 ---- marks
@@ -92,6 +93,14 @@ tip_svg how x y =
 unfoldable pub arrow_svg : Lanes → ℕ → ℕ → ℕ → How → List ℕ → List ℕ → List ℕ
 arrow_svg lanes row client store how asked came =
     line_svg (how_text_of how) (client_x client) (store_x lanes store) (arrow_y row)
+    ++ tip_svg how (store_x lanes store) (arrow_y row)
+    ++ text_svg (codes "ask") (label_x lanes) (text_y row) 42 asked
+    ++ text_svg (codes "came") (came_x lanes store) (text_y row) 10 came
+
+-- from where the labels of calls begin, since no client makes it
+unfoldable pub landing_svg : Lanes → ℕ → ℕ → How → List ℕ → List ℕ → List ℕ
+landing_svg lanes row store how asked came =
+    line_svg (how_text_of how) (label_x lanes) (store_x lanes store) (arrow_y row)
     ++ tip_svg how (store_x lanes store) (arrow_y row)
     ++ text_svg (codes "ask") (label_x lanes) (text_y row) 42 asked
     ++ text_svg (codes "came") (came_x lanes store) (text_y row) 10 came
@@ -159,6 +168,7 @@ mark_svg lanes (Band lane row rows stage effect) = band_svg lanes lane row rows 
 mark_svg lanes (Decided row store verdict effect) = decision_svg lanes row store verdict effect
 mark_svg lanes (Rested row client text) = rest_svg row client text
 mark_svg lanes (Ticked row text) = tick_svg row text
+mark_svg lanes (Landed row store how asked came) = landing_svg lanes row store how asked came
 mark_svg lanes (Pointed events place id) = point_svg lanes events place id
 
 unfoldable pub title_svg : List ℕ → List ℕ

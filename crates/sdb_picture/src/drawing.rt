@@ -164,6 +164,26 @@ pub fn put_arrow(
     put_text(out, "came", came_x(lanes, store), text_y(row), 10, came)
 }
 
+/// Adds a landing: an arrow from where the labels begin to the store, what the request asks, and what came of it.
+#[tactic(auto, unfolding(crate::specs::Svg::landing_svg))]
+pub fn put_landing(
+    out: &mut String,
+    lanes: &Lanes,
+    row: usize,
+    store: usize,
+    how: How,
+    asked: &str,
+    came: &str,
+) -> Result<(), NoMemory>
+    ensures { OnOk result (string_bytes out.new ≡ string_bytes out.old ++ spec.landing_svg lanes.now row store how asked.now came.now) }
+{
+    let to = store_x(lanes, store);
+    put_line(out, how_word(how), label_x(lanes), to, arrow_y(row))?;
+    put_tip(out, how, to, arrow_y(row))?;
+    put_text(out, "ask", label_x(lanes), text_y(row), 42, asked)?;
+    put_text(out, "came", came_x(lanes, store), text_y(row), 10, came)
+}
+
 #[tactic(auto, unfolding(crate::specs::Svg::wedge_svg))]
 fn put_wedge(out: &mut String, x: u128, y: u128) -> Result<(), NoMemory>
     ensures { OnOk result (string_bytes out.new ≡ string_bytes out.old ++ spec.wedge_svg x y) }
@@ -289,7 +309,7 @@ pub fn put_rested(out: &mut String, row: usize, client: usize, text: &str) -> Re
     put_text(out, "note", statement_x(client), text_y(row), 48, text)
 }
 
-/// Adds a move of the clock.
+/// Adds a note that is no client's.
 #[tactic(auto, unfolding(crate::specs::Svg::tick_svg))]
 pub fn put_ticked(out: &mut String, row: usize, text: &str) -> Result<(), NoMemory>
     ensures { OnOk result (string_bytes out.new ≡ string_bytes out.old ++ spec.tick_svg row text.now) }

@@ -61,6 +61,7 @@ pub fn effect_of(how: How, reply: &Reply) -> Effect
         How::Seen => effect_seen(reply),
         How::Lost => Effect::Doubtful,
         How::Discarded => Effect::Nothing,
+        How::Delayed => Effect::Nothing,
         How::Broken => Effect::Doubtful,
     }
 }

@@ -1,4 +1,4 @@
-//! What becomes of a call, as it is drawn: the one place for it, beside the lines of the style and of the legend.
+//! What becomes of a call or a landing, as it is drawn: the one place for it, beside the lines of the style and of the legend.
 ghost use Rattle.std.specs.Prelude.{◌≡◌};
 ghost use Rattle.sdb_model.specs.Report.{how_text_of};
 ghost use Rattle.sdb_picture.specs.Marks.{came_word as came_word_lem, reply_word as reply_word_lem};
@@ -15,6 +15,7 @@ pub fn how_word(how: How) -> &'static str
         How::Seen => "seen",
         How::Lost => "lost",
         How::Discarded => "dropped",
+        How::Delayed => "delayed",
         How::Broken => "failed",
     }
 }
@@ -27,6 +28,7 @@ pub fn tip_path(how: How) -> &'static str
         How::Seen => "l-10,-5v10z",
         How::Lost => "l-10,-5v10z",
         How::Discarded => "m-12,-5l10,10m0,-10l-10,10",
+        How::Delayed => "m-12,-5l10,10m0,-10l-10,10",
         How::Broken => "m-10,-5h10v10h-10z",
     }
 }
@@ -53,6 +55,7 @@ pub fn came_word(how: How, reply: &Reply) -> &'static str
         How::Seen => reply_word(reply),
         How::Lost => how_word(how),
         How::Discarded => how_word(how),
+        How::Delayed => how_word(how),
         How::Broken => how_word(how),
     }
 }

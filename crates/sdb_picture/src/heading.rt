@@ -32,11 +32,11 @@ text{fill:#1b1f24;paint-order:stroke;stroke:#fff;stroke-width:3px;stroke-linejoi
 .call{fill:none;stroke-width:1.8}
 .call.seen{stroke:#0072b2}
 .call.lost{stroke:#c04f00;stroke-dasharray:9 4}
-.call.dropped{stroke:#6a737d;stroke-dasharray:2 4}
+.call.dropped,.call.delayed{stroke:#6a737d;stroke-dasharray:2 4}
 .call.failed{stroke:#a40e4c;stroke-dasharray:10 3 2 3}
 .tip.seen{fill:#0072b2}
 .tip.lost{fill:#fff;stroke:#c04f00;stroke-width:1.5}
-.tip.dropped{fill:none;stroke:#6a737d;stroke-width:2}
+.tip.dropped,.tip.delayed{fill:none;stroke:#6a737d;stroke-width:2}
 .tip.failed{fill:#a40e4c}
 .band{stroke:#1b1f24;stroke-width:1}
 .band.doubtful{stroke-dasharray:3 3;fill-opacity:.35}
@@ -70,7 +70,7 @@ const LEGEND: &str = "<g>
 <text class=\"legend\" x=\"80\" y=\"82\">made, its reply lost</text>
 <path class=\"call dropped\" d=\"M20,102H70\"/>
 <path class=\"tip dropped\" d=\"M70,102m-12,-5l10,10m0,-10l-10,10\"/>
-<text class=\"legend\" x=\"80\" y=\"106\">dropped: not made</text>
+<text class=\"legend\" x=\"80\" y=\"106\">dropped or delayed</text>
 <path class=\"call failed\" d=\"M20,126H70\"/>
 <path class=\"tip failed\" d=\"M70,126m-10,-5h10v10h-10z\"/>
 <text class=\"legend\" x=\"80\" y=\"130\">the store failed</text>
@@ -113,6 +113,10 @@ const LEGEND: &str = "<g>
 <text class=\"legend\" x=\"548\" y=\"114\">the point of a recorded</text>
 <text class=\"legend\" x=\"548\" y=\"130\">transaction, by its place</text>
 <text class=\"legend\" x=\"548\" y=\"146\">in the order</text>
+<path class=\"call seen\" d=\"M490,170H540\"/>
+<path class=\"tip seen\" d=\"M540,170l-10,-5v10z\"/>
+<text class=\"legend\" x=\"548\" y=\"174\">from no client: a late</text>
+<text class=\"legend\" x=\"548\" y=\"190\">request lands</text>
 </g>
 ";
 

@@ -68,6 +68,7 @@ pub fn effect_in(
         How::Seen => effect_seen(reply),
         How::Lost => effect_lost(sure, is_met(request, found)),
         How::Discarded => Effect::Nothing,
+        How::Delayed => Effect::Nothing,
         How::Broken => effect_failed(sure, is_met(request, found)),
     }
 }
@@ -88,6 +89,31 @@ fn after<'a>(
     }
 }
 
+// The same after a call or a landing on a store, which may write another record.
+fn written<'a>(
+    sure: bool,
+    found: Option<&'a Record>,
+    at: &Name,
+    request: &'a Request,
+    how: How,
+    reply: &Reply,
+    store: &Name,
+    key: &Key,
+) -> (bool, Option<&'a Record>)
+    ensures { spec.known result.0 (option_copied result.1) ≡ spec.written store.now key.now (spec.known sure (option_copied found.entry)) at.now request.now how reply.now }
+{
+    if writes_at(at, request, store, key) {
+        after(
+            sure,
+            found,
+            request,
+            effect_in(sure, found, request, how, reply),
+        )
+    } else {
+        (sure, found)
+    }
+}
+
 fn left_by<'a>(
     sure: bool,
     found: Option<&'a Record>,
@@ -100,20 +126,14 @@ fn left_by<'a>(
     match event {
         Event::Take(_, _, _) => (sure, found),
         Event::Call(_, at, request, how, reply, _) => {
-            if writes_at(at, request, store, key) {
-                after(
-                    sure,
-                    found,
-                    request,
-                    effect_in(sure, found, request, *how, reply),
-                )
-            } else {
-                (sure, found)
-            }
+            written(sure, found, at, request, *how, reply, store, key)
         }
         Event::Stop(_) => (sure, found),
         Event::Clock(_) => (sure, found),
         Event::Idle(_) => (sure, found),
+        Event::Land(_, at, request, how, reply) => {
+            written(sure, found, at, request, *how, reply, store, key)
+        }
     }
 }
 
@@ -143,6 +163,10 @@ fn changes(sure: bool, found: Option<&Record>, store: &Name, key: &Key, event: &
         Event::Stop(_) => false,
         Event::Clock(_) => false,
         Event::Idle(_) => false,
+        Event::Land(_, at, request, how, reply) => {
+            writes_at(at, request, store, key)
+                && may_change(effect_in(sure, found, request, *how, reply))
+        }
     }
 }
 

@@ -118,7 +118,14 @@ fn add_client_of(clients: &mut Seq<u32>, event: &Event) -> Result<(), NoMemory>
         Event::Call(client, _, _, _, _, _) => add_client(clients, *client),
         Event::Stop(client) => add_client(clients, *client),
         Event::Clock(_) => Ok(()),
-        Event::Idle(client) => add_client(clients, *client),
+        Event::Idle(client) => {
+            if *client == 0 {
+                Ok(())
+            } else {
+                add_client(clients, *client)
+            }
+        }
+        Event::Land(_, _, _, _, _) => Ok(()),
     }
 }
 
@@ -150,6 +157,7 @@ fn add_store_of(stores: &mut Seq<Name>, event: &Event) -> Result<(), NoMemory>
         Event::Stop(_) => Ok(()),
         Event::Clock(_) => Ok(()),
         Event::Idle(_) => Ok(()),
+        Event::Land(_, store, _, _, _) => add_store(stores, store),
     }
 }
 
@@ -201,6 +209,9 @@ fn add_record_of(records: &mut Seq<Place>, event: &Event) -> Result<(), NoMemory
         Event::Stop(_) => Ok(()),
         Event::Clock(_) => Ok(()),
         Event::Idle(_) => Ok(()),
+        Event::Land(_, store, request, how, reply) => {
+            add_begun(records, store, band_begun(request, effect_of(*how, reply)))
+        }
     }
 }
 

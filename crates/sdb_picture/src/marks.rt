@@ -6,10 +6,11 @@ ghost use Rattle.sdb_picture.specs.Marks as spec;
 ghost use Rattle.sdb_picture.specs.Svg.{mark_svg};
 
 use crate::drawing::{
-    put_answered, put_arrow, put_band, put_decided, put_rested, put_statement, put_ticked,
+    put_answered, put_arrow, put_band, put_decided, put_landing, put_rested, put_statement,
+    put_ticked,
 };
 use crate::fate::came_word;
-use crate::titles::{asked_text, clock_text};
+use crate::titles::{asked_text, clock_text, idle_text, landed_text};
 use crate::{Effect, Lanes, effect_at, is_decision, may_change, rows_after, stage_of, verdict_of};
 use sdb_model::{Answer, Event, How, answer_text};
 use sdb_types::{Condition, Name, NoMemory, Record, Reply, Request};
@@ -66,6 +67,31 @@ fn put_call(
         lanes,
         row,
         client,
+        lanes.of_store(store),
+        how,
+        asked.as_str(),
+        came,
+    )
+}
+
+fn put_landed(
+    out: &mut String,
+    lanes: &Lanes,
+    row: usize,
+    number: u32,
+    store: &Name,
+    request: &Request,
+    how: How,
+    reply: &Reply,
+) -> Result<(), NoMemory>
+    ensures { OnOk result (string_bytes out.new ≡ string_bytes out.old ++ flat_map (mark_svg lanes.now) (spec.landing_marks lanes.now row number store.now request.now how reply.now)) }
+{
+    let asked = landed_text(*out.allocator(), number, request)?;
+    let came = came_word(how, reply);
+    put_landing(
+        out,
+        lanes,
+        row,
         lanes.of_store(store),
         how,
         asked.as_str(),
@@ -190,6 +216,16 @@ fn put_clock(out: &mut String, lanes: &Lanes, row: usize, moment: i64) -> Result
     put_ticked(out, row, text.as_str())
 }
 
+fn put_idle(out: &mut String, lanes: &Lanes, row: usize, client: u32) -> Result<(), NoMemory>
+    ensures { OnOk result (string_bytes out.new ≡ string_bytes out.old ++ flat_map (mark_svg lanes.now) (spec.idle_marks lanes.now row client)) }
+{
+    if client == 0 {
+        put_ticked(out, row, idle_text(client))
+    } else {
+        put_rested(out, row, lanes.of_client(client), idle_text(client))
+    }
+}
+
 /// Adds the marks of an event, which is in this row. The events before it say whether a put took effect, and those after it how long a
 /// band lasts.
 pub fn put_marks(
@@ -221,6 +257,10 @@ pub fn put_marks(
         }
         Event::Stop(client) => put_rested(out, row, lanes.of_client(*client), "stops"),
         Event::Clock(moment) => put_clock(out, lanes, row, *moment),
-        Event::Idle(client) => put_rested(out, row, lanes.of_client(*client), "idles"),
+        Event::Idle(client) => put_idle(out, lanes, row, *client),
+        Event::Land(number, store, request, how, reply) => {
+            put_landed(out, lanes, row, *number, store, request, *how, reply)?;
+            put_effect(out, lanes, past, row, store, request, *how, reply, rest)
+        }
     }
 }

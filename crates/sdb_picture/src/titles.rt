@@ -1,9 +1,9 @@
-//! The texts of events: what is accepted, what a call asks for, and the answer.
+//! The texts of events: what is accepted, what a call or a landing asks for, and the answer.
 ghost use Rattle.std.specs.Prelude.{◌≡◌, ◌++◌, OnOk, IfOk};
 ghost use Rattle.std.specs.String.{string_bytes};
 ghost use Rattle.sdb_picture.specs.Marks as spec;
 
-use sdb_model::{Answer, Event, put_answer, put_key, put_record, put_signed, put_span};
+use sdb_model::{Answer, Event, put_answer, put_key, put_number, put_record, put_signed, put_span};
 use sdb_types::{NoMemory, Request};
 use std::alloc::Global;
 use std::fmt::Write;
@@ -47,6 +47,35 @@ pub fn asked_text(alloc: Global, request: &Request) -> Result<String, NoMemory>
     Ok(text)
 }
 
+fn put_landed(out: &mut String, number: u32, request: &Request) -> Result<(), NoMemory>
+    ensures { OnOk result (string_bytes out.new ≡ string_bytes out.old ++ spec.landed_text number request.now) }
+{
+    out.push_str("land ")?;
+    put_number(out, u64::from(number))?;
+    out.push_str(" ")?;
+    put_asked(out, request)
+}
+
+/// What a late request asks for, after its number.
+pub fn landed_text(alloc: Global, number: u32, request: &Request) -> Result<String, NoMemory>
+    ensures { IfOk result (λ text. string_bytes text ≡ spec.landed_text number request.now) }
+{
+    let mut text = String::new(alloc);
+    put_landed(&mut text, number, request)?;
+    Ok(text)
+}
+
+/// What is idle: a client, or the landing of a request that isn't in flight.
+pub fn idle_text(client: u32) -> &'static str
+    ensures { result.now ≡ spec.idle_text client }
+{
+    if client == 0 {
+        "nothing lands"
+    } else {
+        "idles"
+    }
+}
+
 /// The moment that a clock shows.
 pub fn clock_text(alloc: Global, moment: i64) -> Result<String, NoMemory>
     ensures { IfOk result (λ text. string_bytes text ≡ spec.clock_text moment) }
@@ -64,7 +93,8 @@ fn put_event_text(out: &mut String, event: &Event) -> Result<(), NoMemory>
         Event::Call(_, _, request, _, _, _) => put_asked(out, request)?,
         Event::Stop(_) => out.push_str("stops")?,
         Event::Clock(moment) => put_clock(out, *moment)?,
-        Event::Idle(_) => out.push_str("idles")?,
+        Event::Idle(client) => out.push_str(idle_text(*client))?,
+        Event::Land(number, _, request, _, _) => put_landed(out, *number, request)?,
     }
     Ok(())
 }

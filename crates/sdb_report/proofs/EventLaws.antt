@@ -8,14 +8,14 @@ use Rattle.std.proofs.lemmas.Option.{same_Some, cond_some}
 use Rattle.std.proofs.lemmas.Str.{IsUtf8-from_is_utf8, is_utf8-from_IsUtf8}
 use Rattle.sdb_report.specs.Types.{Answer, Event, How, Reply, Request}
 use Rattle.sdb_model.specs.Plain.{request_is_plain, reply_is_plain, IsPlainGiven, HasPlainParts}
-use Rattle.sdb_model.specs.Report.{given_text_of, request_text_of, how_text_of, reply_text_of, asked_text_of, came_text_of, event_text_of}
+use Rattle.sdb_model.specs.Report.{given_text_of, request_text_of, how_text_of, reply_text_of, asked_text_of, came_text_of, landed_text_of, effect_text_of, event_text_of}
 use Rattle.sdb_model.specs.declared.event.Event.TheVariants as event
 use Rattle.sdb_report.specs.FieldReading.{Read, case_of, after, text_of, name_at, integer_at}
-use Rattle.sdb_report.specs.Lines.{behind_space, given_at, request_at, how_at, reply_at, client_at, is_empty, whole, take_of, came_at, asked_at, call_of, event_of, numbered_event_of}
+use Rattle.sdb_report.specs.Lines.{behind_space, given_at, request_at, how_at, landed_how_at, reply_at, client_at, is_empty, whole, take_of, came_at, asked_at, call_of, effect_at, land_of, event_of, numbered_event_of}
 use Rattle.sdb_report.proofs.WordLaws.{case_some, join, Says, Sound, after_is, after_again, itself, IsName, name_sound, name_again}
 use Rattle.sdb_report.proofs.NumberLaws.{below_sound, below_again, IsLong, integer_sound, integer_again}
 use Rattle.sdb_report.proofs.AnswerLaws.{behind_sound, join_space, given_sound, given_again}
-use Rattle.sdb_report.proofs.RequestLaws.{request_sound, request_again, any_how, how_sound, how_again, reply_sound, reply_again}
+use Rattle.sdb_report.proofs.RequestLaws.{request_sound, request_again, any_how, how_sound, how_again, IsLandedHow, landed_how_sound, landed_how_again, reply_sound, reply_again, reply_last}
 use Rattle.sdb_types.proofs.Public.{bind_some}
 use Rattle.sdb_types.specs.Options.{◌>>=◌}
 
@@ -65,8 +65,9 @@ Asked = ℕ × List ℕ × Request
 abbrev Came : Type 0
 Came = How × Reply × Option Answer
 
-abbrev asked_of : Asked → List ℕ
-asked_of a = asked_text_of a.0 a.1 a.2
+-- a number, a store and a request, after a word
+abbrev asked_of : List ℕ → Asked → List ℕ
+asked_of word a = word ++ decimal a.0 ++ codes " " ++ a.1 ++ codes " " ++ request_text_of a.2
 
 abbrev came_of : Came → List ℕ
 came_of c = came_text_of c.0 c.1 c.2
@@ -77,19 +78,19 @@ AskedFits a = IsClient a.0 × IsName a.1 × request_is_plain a.2
 abbrev CameFits : Came → Type 0
 CameFits c = reply_is_plain c.1 × IsPlainGiven c.2
 
-asked_is : (line rest : List ℕ) (x : Asked × List ℕ) → line ≡ codes "call " ++ rest → asked_at rest ≡ Some x → Says asked_of AskedFits line x
+asked_is : (word line rest : List ℕ) (x : Asked × List ℕ) → line ≡ word ++ rest → asked_at rest ≡ Some x → Says (asked_of word) AskedFits line x
 unfolding asked_at
-asked_is line rest x p h =
+asked_is word line rest x p h =
     let a = bind_some (client_at rest) (λ client. behind_space name_at client.1 >>= λ store. behind_space request_at store.1 >>= λ request. Some ((client.0, store.0, request.0), request.1)) x h in
     let b = bind_some (behind_space name_at a.0.1) (λ store. behind_space request_at store.1 >>= λ request. Some ((a.0.0, store.0, request.0), request.1)) x a.2 in
     let c = bind_some (behind_space request_at b.0.1) (λ request. Some ((a.0.0, b.0.0, request.0), request.1)) x b.2 in
     let n = client_sound rest a.0 a.1 in
     let s = behind_sound name_at itself IsName name_sound a.0.1 b.0 b.1 in
     let r = behind_sound request_at request_text_of request_is_plain request_sound b.0.1 c.0 c.1 in
-    let two = join (codes "call ") (decimal a.0.0) a.0.1 p n.parts in
-    let three = join_space (codes "call " ++ decimal a.0.0) b.0.0 b.0.1 two s.parts in
-    subst (Says asked_of AskedFits line) (same_Some ((a.0.0, b.0.0, c.0.0), c.0.1) x c.2)
-    (record { parts = join_space (codes "call " ++ decimal a.0.0 ++ codes " " ++ b.0.0) (request_text_of c.0.0) c.0.1 three r.parts; fits = (n.fits, s.fits, r.fits) })
+    let two = join word (decimal a.0.0) a.0.1 p n.parts in
+    let three = join_space (word ++ decimal a.0.0) b.0.0 b.0.1 two s.parts in
+    subst (Says (asked_of word) AskedFits line) (same_Some ((a.0.0, b.0.0, c.0.0), c.0.1) x c.2)
+    (record { parts = join_space (word ++ decimal a.0.0 ++ codes " " ++ b.0.0) (request_text_of c.0.0) c.0.1 three r.parts; fits = (n.fits, s.fits, r.fits) })
 
 came_sound : Sound came_at came_of CameFits
 unfolding came_at
@@ -109,10 +110,41 @@ unfolding call_of
 call_is line rest e p h =
     let a = bind_some (asked_at rest) (λ asked. whole (came_at asked.1) >>= λ came. Some (event.Call asked.0.0 asked.0.1 asked.0.2 came.0 came.1 came.2)) e h in
     let b = bind_some (whole (came_at a.0.1)) (λ came. Some (event.Call a.0.0.0 a.0.0.1 a.0.0.2 came.0 came.1 came.2)) e a.2 in
-    let s = asked_is line rest a.0 p a.1 in
+    let s = asked_is (codes "call ") line rest a.0 p a.1 in
     let c = whole_is came_at came_of CameFits came_sound a.0.1 b.0 b.1 in
     let same : event.Call a.0.0.0 a.0.0.1 a.0.0.2 b.0.0 b.0.1 b.0.2 ≡ e = same_Some (event.Call a.0.0.0 a.0.0.1 a.0.0.2 b.0.0 b.0.1 b.0.2) e b.2 in
-    subst (EventIs line) same (s.parts ∙ ap (λ (t : List ℕ). asked_of a.0.0 ++ t) c.0, (s.fits.0, s.fits.1, s.fits.2, c.1.0, c.1.1))
+    subst (EventIs line) same (s.parts ∙ ap (λ (t : List ℕ). asked_of (codes "call ") a.0.0 ++ t) c.0, (s.fits.0, s.fits.1, s.fits.2, c.1.0, c.1.1))
+
+---- landings
+
+abbrev Effect : Type 0
+Effect = How × Reply
+
+abbrev effect_of : Effect → List ℕ
+effect_of e = effect_text_of e.0 e.1
+
+abbrev EffectFits : Effect → Type 0
+EffectFits e = reply_is_plain e.1 × IsLandedHow e.0
+
+effect_sound : Sound effect_at effect_of EffectFits
+unfolding effect_at
+effect_sound bytes x h =
+    let a = bind_some (behind_space landed_how_at bytes) (λ how. behind_space reply_at how.1 >>= λ reply. Some ((how.0, reply.0), reply.1)) x h in
+    let b = bind_some (behind_space reply_at a.0.1) (λ reply. Some ((a.0.0, reply.0), reply.1)) x a.2 in
+    let n = behind_sound landed_how_at how_text_of IsLandedHow landed_how_sound bytes a.0 a.1 in
+    let s = behind_sound reply_at reply_text_of reply_is_plain reply_sound a.0.1 b.0 b.1 in
+    subst (Says effect_of EffectFits bytes) (same_Some ((a.0.0, b.0.0), b.0.1) x b.2)
+    (record { parts = join_space (codes " " ++ how_text_of a.0.0) (reply_text_of b.0.0) b.0.1 n.parts s.parts; fits = (s.fits, n.fits) })
+
+land_is : (line rest : List ℕ) (e : Event) → line ≡ codes "land " ++ rest → land_of rest ≡ Some e → EventIs line e
+unfolding land_of
+land_is line rest e p h =
+    let a = bind_some (asked_at rest) (λ asked. whole (effect_at asked.1) >>= λ effect. Some (event.Land asked.0.0 asked.0.1 asked.0.2 effect.0 effect.1)) e h in
+    let b = bind_some (whole (effect_at a.0.1)) (λ effect. Some (event.Land a.0.0.0 a.0.0.1 a.0.0.2 effect.0 effect.1)) e a.2 in
+    let s = asked_is (codes "land ") line rest a.0 p a.1 in
+    let c = whole_is effect_at effect_of EffectFits effect_sound a.0.1 b.0 b.1 in
+    let same : event.Land a.0.0.0 a.0.0.1 a.0.0.2 b.0.0 b.0.1 ≡ e = same_Some (event.Land a.0.0.0 a.0.0.1 a.0.0.2 b.0.0 b.0.1) e b.2 in
+    subst (EventIs line) same (s.parts ∙ ap (λ (t : List ℕ). asked_of (codes "land ") a.0.0 ++ t) c.0, (s.fits.0, s.fits.1, s.fits.2, c.1.0, c.1.1))
 
 -- a number after a word
 word_is : {X : Type 0} (read : List ℕ → Read X) (text : X → List ℕ) (P : X → Type 0) (f : X → Event) (word : List ℕ) → Sound read text P
@@ -129,7 +161,8 @@ event_is line e h =
     let idles : List ℕ → Option Event = λ rest. whole (client_at rest) >>= λ client. Some (event.Idle client) in
     let clocks : List ℕ → Option Event = λ rest. whole (integer_at rest) >>= λ moment. Some (event.Clock moment) in
     let stops : List ℕ → Option Event = λ rest. whole (client_at rest) >>= λ client. Some (event.Stop client) in
-    let idle = case_of (after (codes "idle ") line) idles None in
+    let land = case_of (after (codes "land ") line) land_of None in
+    let idle = case_of (after (codes "idle ") line) idles land in
     let clock = case_of (after (codes "clock ") line) clocks idle in
     let stop = case_of (after (codes "stop ") line) stops clock in
     let call = case_of (after (codes "call ") line) call_of stop in
@@ -139,8 +172,9 @@ event_is line e h =
     (λ rest q k. word_is client_at decimal IsClient event.Stop (codes "stop ") client_sound (λ n. refl) (λ n f. f) line rest e (after_is (codes "stop ") line rest q) k) (λ q k.
     case_some (after (codes "clock ") line) clocks idle (Some e) k
     (λ rest q k. word_is integer_at signed_decimal IsLong event.Clock (codes "clock ") integer_sound (λ n. refl) (λ n f. f) line rest e (after_is (codes "clock ") line rest q) k) (λ q k.
-    case_some (after (codes "idle ") line) idles None (Some e) k
-    (λ rest q k. word_is client_at decimal IsClient event.Idle (codes "idle ") client_sound (λ n. refl) (λ n f. f) line rest e (after_is (codes "idle ") line rest q) k) (λ q k. absurd cc)))))
+    case_some (after (codes "idle ") line) idles land (Some e) k
+    (λ rest q k. word_is client_at decimal IsClient event.Idle (codes "idle ") client_sound (λ n. refl) (λ n f. f) line rest e (after_is (codes "idle ") line rest q) k) (λ q k.
+    case_some (after (codes "land ") line) land_of None (Some e) k (λ rest q k. land_is line rest e (after_is (codes "land ") line rest q) k) (λ q k. absurd cc))))))
 
 ---- the line of each event is read
 
@@ -153,6 +187,12 @@ pieces w n p s q r a h b y c g = simp append_assoc
 call_pieces : (n s r h y g : List ℕ) → (codes "call " ++ n ++ codes " " ++ s ++ codes " " ++ r) ++ (codes " " ++ h ++ codes " " ++ y ++ codes " " ++ g) ≡ codes "call " ++ (n ++ 32 ∷ (s ++ 32 ∷ (r ++ 32 ∷ (h ++ 32 ∷ (y ++ 32 ∷ g)))))
 call_pieces n s r h y g = pieces (codes "call ") n (codes " ") s (codes " ") r (codes " ") h (codes " ") y (codes " ") g
 
+landed_pieces : (w n p s q r a h b y : List ℕ) → (w ++ n ++ p ++ s ++ q ++ r) ++ (a ++ h ++ b ++ y) ≡ w ++ (n ++ (p ++ (s ++ (q ++ (r ++ (a ++ (h ++ (b ++ y))))))))
+landed_pieces w n p s q r a h b y = simp append_assoc
+
+land_pieces : (n s r h y : List ℕ) → (codes "land " ++ n ++ codes " " ++ s ++ codes " " ++ r) ++ (codes " " ++ h ++ codes " " ++ y) ≡ codes "land " ++ (n ++ 32 ∷ (s ++ 32 ∷ (r ++ 32 ∷ (h ++ 32 ∷ y))))
+land_pieces n s r h y = landed_pieces (codes "land ") n (codes " ") s (codes " ") r (codes " ") h (codes " ") y
+
 client_again : (n : ℕ) → n < 2 ^ 32 → client_at (decimal n) ≡ Some (n, [])
 client_again n lt = ap client_at (sym (append-nil (decimal n))) ∙ below_again (2 ^ 32) n [] (omega arith) lt refl
 
@@ -163,7 +203,7 @@ given_last : (given : Option Answer) → IsPlainGiven given → given_at (given_
 given_last given fits = ap given_at (sym (append-nil (given_text_of given))) ∙ given_again given [] fits refl
 
 pub event_again : (e : Event) → HasPlainParts e → event_of (event_text_of e) ≡ Some e
-unfolding event_of take_of call_of asked_at came_at
+unfolding event_of take_of call_of asked_at came_at land_of effect_at
 event_again (event.Take client text given) fits =
     ap event_of (take_pieces (decimal client) (given_text_of given) text)
     ∙ rw (below_again (2 ^ 32) client (32 ∷ (given_text_of given ++ (codes " : " ++ text))) (omega arith) fits.0 refl, given_again given (codes " : " ++ text) fits.2 refl, is_utf8-from_IsUtf8 text fits.1) refl
@@ -183,6 +223,17 @@ event_again (event.Call client store request how reply given) fits =
 event_again (event.Stop client) fits = rw (client_again client fits) refl
 event_again (event.Clock moment) fits = rw (moment_again moment fits) refl
 event_again (event.Idle client) fits = rw (client_again client fits) refl
+event_again (event.Land number store request how reply) fits =
+    let y : List ℕ = 32 ∷ reply_text_of reply in
+    let h : List ℕ = 32 ∷ (how_text_of how ++ y) in
+    ap event_of (land_pieces (decimal number) store (request_text_of request) (how_text_of how) (reply_text_of reply))
+    ∙ rw (
+      below_again (2 ^ 32) number (32 ∷ (store ++ 32 ∷ (request_text_of request ++ h))) (omega arith) fits.0 refl,
+      name_again store (32 ∷ (request_text_of request ++ h)) fits.1 refl,
+      request_again request (how_text_of how ++ y) fits.2,
+      landed_how_again how y fits.4,
+      reply_last reply fits.3,
+    ) refl
 
 ---- with the number first
 

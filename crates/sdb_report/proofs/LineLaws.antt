@@ -27,7 +27,7 @@ use Rattle.sdb_model.specs.Report.{given_text_of, condition_text_of, request_tex
 use Rattle.sdb_model.specs.Texts.{doubled, value_text_of, values_text_of, row_text_of, clustering_text_of, key_text_of, partition_text_of, pair_text_of, columns_text_of, record_text_of, found_columns_text_of, rows_text_of, answer_text_of}
 use Rattle.sdb_model.specs.declared.answer.Answer.TheVariants as answer
 use Rattle.sdb_model.specs.declared.event.Event.TheVariants as event
-use Rattle.sdb_model.specs.declared.event.How.TheVariants.{Seen, Lost, Discarded, Broken}
+use Rattle.sdb_model.specs.declared.event.How.TheVariants.{Seen, Lost, Discarded, Delayed, Broken}
 use Rattle.sdb_report.specs.OneLine.{ValueHasNoLf, ValuesHaveNoLf, KeyHasNoLf, ColumnsHaveNoLf, RecordHasNoLf, AnswerHasNoLf, RequestHasNoLf, ReplyHasNoLf, EventHasNoLf}
 use Rattle.sdb_report.proofs.ValueLaws.{is_long}
 
@@ -223,6 +223,7 @@ how_one : (how : How) → IsLine (how_text_of how)
 how_one Seen = refl
 how_one Lost = refl
 how_one Discarded = refl
+how_one Delayed = refl
 how_one Broken = refl
 
 found_one : (found : Option Record) → IfSome found record_fits → IfSome found RecordHasNoLf → IsLine (found_text_of found)
@@ -254,3 +255,8 @@ event_one (event.Call client store request how reply given) fits h =
 event_one (event.Stop client) fits h = decimal_one client (omega (arith, fits))
 event_one (event.Clock moment) fits h = signed_one moment fits
 event_one (event.Idle client) fits h = decimal_one client (omega (arith, fits))
+event_one (event.Land number store request how reply) fits h =
+    let a = then_space (codes "land " ++ decimal number) store (decimal_one number (omega (arith, fits.0))) (name_one store fits.1) in
+    let b = then_space (codes "land " ++ decimal number ++ codes " " ++ store) (request_text_of request) a (request_one request fits.2 h.0) in
+    let c = then_space (codes " " ++ how_text_of how) (reply_text_of reply) (how_one how) (reply_one reply fits.3 h.1) in
+    lines_joined (codes "land " ++ decimal number ++ codes " " ++ store ++ codes " " ++ request_text_of request) (codes " " ++ how_text_of how ++ codes " " ++ reply_text_of reply) b c

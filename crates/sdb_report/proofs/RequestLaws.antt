@@ -1,5 +1,5 @@
 -- Requests, what became of them, and replies: what is read is there, and what is there is read.
-use Rattle.std.proofs.Common.{◌≡◌, ℕ, ◌<◌, List, [], ◌∷◌, ◌++◌, Option, Some, None, IfSome, refl, ap, subst, ◌∙◌, append_assoc}
+use Rattle.std.proofs.Common.{◌≡◌, ◌⊎◌, ℕ, ◌<◌, List, [], ◌∷◌, ◌++◌, Option, Some, None, IfSome, inl, inr, refl, ap, subst, ◌∙◌, append_assoc, append-nil, sym}
 use Rattle.std.specs.Prelude.{codes}
 use Rattle.std.specs.Fmt.{decimal, signed_decimal}
 use Rattle.std.proofs.lemmas.Option.{same_Some}
@@ -13,9 +13,9 @@ use Rattle.sdb_types.specs.declared.record.State.TheVariants.{Prepared, Deleted,
 use Rattle.sdb_model.specs.Plain.{span_is_plain, condition_is_plain, request_is_plain, reply_is_plain}
 use Rattle.sdb_model.specs.Report.{condition_text_of, request_text_of, how_text_of, found_text_of, records_text_of, reply_text_of}
 use Rattle.sdb_model.specs.Texts.{key_text_of, span_text_of, record_text_of}
-use Rattle.sdb_model.specs.declared.event.How.TheVariants.{Seen, Lost, Discarded, Broken}
+use Rattle.sdb_model.specs.declared.event.How.TheVariants.{Seen, Lost, Discarded, Delayed, Broken}
 use Rattle.sdb_report.specs.FieldReading.{Read, case_of, after, name_at, table_at, key_at, span_at, record_at, id_at}
-use Rattle.sdb_report.specs.Lines.{behind_space, state_at, version_at, condition_at, get_at, scan_at, put_at, delete_at, request_at, how_at, found_at, records_at, found_reply_at, rows_reply_at, not_met_at, reply_at}
+use Rattle.sdb_report.specs.Lines.{behind_space, state_at, version_at, condition_at, get_at, scan_at, put_at, delete_at, request_at, how_at, landed_how_at, found_at, records_at, found_reply_at, rows_reply_at, not_met_at, reply_at}
 use Rattle.std.specs.Int.{w128, to_be_bytes}
 use Rattle.std.proofs.Common.{get_or, ltb, arith}
 use Rattle.std.proofs.Common.{◌+◌}
@@ -168,19 +168,38 @@ pub how_sound : Sound how_at how_text_of any_how
 unfolding how_at
 how_sound bytes x h =
     let failed = case_of (after (codes "failed") bytes) (λ rest. Some (Broken, rest)) None in
-    let dropped = case_of (after (codes "dropped") bytes) (λ rest. Some (Discarded, rest)) failed in
+    let delayed = case_of (after (codes "delayed") bytes) (λ rest. Some (Delayed, rest)) failed in
+    let dropped = case_of (after (codes "dropped") bytes) (λ rest. Some (Discarded, rest)) delayed in
     let lost = case_of (after (codes "lost") bytes) (λ rest. Some (Lost, rest)) dropped in
     case_some (after (codes "seen") bytes) (λ rest. Some (Seen, rest)) lost (Some x) h (λ rest q k. word_sound (codes "seen") Seen how_text_of any_how refl tt bytes rest x q k) (λ q k.
     case_some (after (codes "lost") bytes) (λ rest. Some (Lost, rest)) dropped (Some x) k (λ rest q k. word_sound (codes "lost") Lost how_text_of any_how refl tt bytes rest x q k) (λ q k.
-    case_some (after (codes "dropped") bytes) (λ rest. Some (Discarded, rest)) failed (Some x) k (λ rest q k. word_sound (codes "dropped") Discarded how_text_of any_how refl tt bytes rest x q k) (λ q k.
-    case_some (after (codes "failed") bytes) (λ rest. Some (Broken, rest)) None (Some x) k (λ rest q k. word_sound (codes "failed") Broken how_text_of any_how refl tt bytes rest x q k) (λ q k. absurd cc))))
+    case_some (after (codes "dropped") bytes) (λ rest. Some (Discarded, rest)) delayed (Some x) k (λ rest q k. word_sound (codes "dropped") Discarded how_text_of any_how refl tt bytes rest x q k) (λ q k.
+    case_some (after (codes "delayed") bytes) (λ rest. Some (Delayed, rest)) failed (Some x) k (λ rest q k. word_sound (codes "delayed") Delayed how_text_of any_how refl tt bytes rest x q k) (λ q k.
+    case_some (after (codes "failed") bytes) (λ rest. Some (Broken, rest)) None (Some x) k (λ rest q k. word_sound (codes "failed") Broken how_text_of any_how refl tt bytes rest x q k) (λ q k. absurd cc)))))
 
 pub how_again : (how : How) (rest : List ℕ) → how_at (how_text_of how ++ rest) ≡ Some (how, rest)
 unfolding how_at
 how_again Seen rest = refl
 how_again Lost rest = refl
 how_again Discarded rest = refl
+how_again Delayed rest = refl
 how_again Broken rest = refl
+
+-- a landing is performed by its store, or its store fails
+abbrev pub IsLandedHow : How → Type 0
+IsLandedHow how = (how ≡ Seen) ⊎ (how ≡ Broken)
+
+pub landed_how_sound : Sound landed_how_at how_text_of IsLandedHow
+unfolding landed_how_at
+landed_how_sound bytes x h =
+    let failed = case_of (after (codes "failed") bytes) (λ rest. Some (Broken, rest)) None in
+    case_some (after (codes "seen") bytes) (λ rest. Some (Seen, rest)) failed (Some x) h (λ rest q k. word_sound (codes "seen") Seen how_text_of IsLandedHow refl (inl refl) bytes rest x q k) (λ q k.
+    case_some (after (codes "failed") bytes) (λ rest. Some (Broken, rest)) None (Some x) k (λ rest q k. word_sound (codes "failed") Broken how_text_of IsLandedHow refl (inr refl) bytes rest x q k) (λ q k. absurd cc))
+
+pub landed_how_again : (how : How) (rest : List ℕ) → IsLandedHow how → landed_how_at (how_text_of how ++ rest) ≡ Some (how, rest)
+unfolding landed_how_at
+landed_how_again how rest (inl seen) = rw seen refl
+landed_how_again how rest (inr broken) = rw broken refl
 
 ---- replies
 
@@ -243,3 +262,26 @@ reply_again reply.Applied rest fits = refl
 reply_again (reply.NotMet found) rest fits = rw (found_again found rest fits) refl
 reply_again reply.Fault rest fits = refl
 reply_again reply.NoMemory rest fits = refl
+
+---- a reply that nothing follows
+
+no_record_last : record_at (codes "none") ≡ None
+unfolding record_at key_at table_at name_at
+no_record_last = refl
+
+found_last : (found : Option Record) → found_fits found → found_at (found_text_of found) ≡ Some (found, [])
+unfolding found_at
+found_last None fits = rw no_record_last refl
+found_last (Some r) fits = ap found_at (sym (append-nil (record_text_of r))) ∙ rw (record_again r [] fits) refl
+
+records_last : (rs : List Record) → CountedFit record_fits rs → records_at (records_text_of rs) ≡ Some (rs, [])
+records_last rs fits = ap records_at (sym (append-nil (records_text_of rs))) ∙ records_again rs [] fits refl
+
+pub reply_last : (r : Reply) → reply_is_plain r → reply_at (reply_text_of r) ≡ Some (r, [])
+unfolding reply_at
+reply_last (reply.Found found) fits = rw (found_last found fits) refl
+reply_last (reply.Rows rows) fits = rw (records_last rows fits) refl
+reply_last reply.Applied fits = refl
+reply_last (reply.NotMet found) fits = rw (found_last found fits) refl
+reply_last reply.Fault fits = refl
+reply_last reply.NoMemory fits = refl

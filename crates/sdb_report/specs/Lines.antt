@@ -7,7 +7,7 @@ use Rattle.sdb_types.specs.declared.record.Request.TheVariants as ask
 use Rattle.sdb_types.specs.declared.record.State.TheVariants.{Prepared, Deleted, Committed, Aborted}
 use Rattle.sdb_model.specs.declared.answer.Answer.TheVariants as answer
 use Rattle.sdb_model.specs.declared.event.Event.TheVariants as event
-use Rattle.sdb_model.specs.declared.event.How.TheVariants.{Seen, Lost, Discarded, Broken}
+use Rattle.sdb_model.specs.declared.event.How.TheVariants.{Seen, Lost, Discarded, Delayed, Broken}
 use Rattle.sdb_report.specs.FieldReading.{Read, case_of, after, text_of, name_at, natural_at, natural_below, integer_at, counted, row_at, key_at, span_at, columns_at, record_at, id_at}
 use Rattle.sdb_types.specs.Options.{◌>>=◌}
 
@@ -125,7 +125,14 @@ how_at bytes =
     case_of (after (codes "seen") bytes) (λ rest. Some (Seen, rest))
     (case_of (after (codes "lost") bytes) (λ rest. Some (Lost, rest))
     (case_of (after (codes "dropped") bytes) (λ rest. Some (Discarded, rest))
-    (case_of (after (codes "failed") bytes) (λ rest. Some (Broken, rest)) None)))
+    (case_of (after (codes "delayed") bytes) (λ rest. Some (Delayed, rest))
+    (case_of (after (codes "failed") bytes) (λ rest. Some (Broken, rest)) None))))
+
+-- what became of a landing: its store performed it or failed
+unfoldable pub landed_how_at : List ℕ → Read How
+landed_how_at bytes =
+    case_of (after (codes "seen") bytes) (λ rest. Some (Seen, rest))
+    (case_of (after (codes "failed") bytes) (λ rest. Some (Broken, rest)) None)
 
 -- A namespace may be `none`: so a record is tried first.
 unfoldable pub found_at : List ℕ → Read (Option Record)
@@ -175,12 +182,19 @@ take_of line = client_at line >>= λ client. behind_space given_at client.1 >>= 
 unfoldable pub came_at : List ℕ → Read (How × Reply × Option Answer)
 came_at bytes = behind_space how_at bytes >>= λ how. behind_space reply_at how.1 >>= λ reply. behind_space given_at reply.1 >>= λ given. Some ((how.0, reply.0, given.0), given.1)
 
--- who asked which store for what: the first half
+-- a number, a store and a request: who asked which store for what, or which request landed there
 unfoldable pub asked_at : List ℕ → Read (ℕ × List ℕ × Request)
 asked_at bytes = client_at bytes >>= λ client. behind_space name_at client.1 >>= λ store. behind_space request_at store.1 >>= λ request. Some ((client.0, store.0, request.0), request.1)
 
 unfoldable pub call_of : List ℕ → Option Event
 call_of line = asked_at line >>= λ asked. whole (came_at asked.1) >>= λ came. Some (event.Call asked.0.0 asked.0.1 asked.0.2 came.0 came.1 came.2)
+
+-- what became of a landing, and the store's reply
+unfoldable pub effect_at : List ℕ → Read (How × Reply)
+effect_at bytes = behind_space landed_how_at bytes >>= λ how. behind_space reply_at how.1 >>= λ reply. Some ((how.0, reply.0), reply.1)
+
+unfoldable pub land_of : List ℕ → Option Event
+land_of line = asked_at line >>= λ asked. whole (effect_at asked.1) >>= λ effect. Some (event.Land asked.0.0 asked.0.1 asked.0.2 effect.0 effect.1)
 
 unfoldable pub event_of : List ℕ → Option Event
 event_of line =
@@ -188,7 +202,8 @@ event_of line =
     (case_of (after (codes "call ") line) call_of
     (case_of (after (codes "stop ") line) (λ rest. whole (client_at rest) >>= λ client. Some (event.Stop client))
     (case_of (after (codes "clock ") line) (λ rest. whole (integer_at rest) >>= λ moment. Some (event.Clock moment))
-    (case_of (after (codes "idle ") line) (λ rest. whole (client_at rest) >>= λ client. Some (event.Idle client)) None))))
+    (case_of (after (codes "idle ") line) (λ rest. whole (client_at rest) >>= λ client. Some (event.Idle client))
+    (case_of (after (codes "land ") line) land_of None)))))
 
 -- the event of the line with this number
 unfoldable pub numbered_event_of : ℕ → List ℕ → Option Event

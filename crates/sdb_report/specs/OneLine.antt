@@ -67,3 +67,4 @@ EventHasNoLf (event.Call client store request how reply given) = RequestHasNoLf 
 EventHasNoLf (event.Stop client) = Unit {0}
 EventHasNoLf (event.Clock moment) = Unit {0}
 EventHasNoLf (event.Idle client) = Unit {0}
+EventHasNoLf (event.Land number store request how reply) = RequestHasNoLf request × ReplyHasNoLf reply

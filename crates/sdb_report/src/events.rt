@@ -5,8 +5,8 @@ ghost use Rattle.sdb_report.specs.FieldReading.{Gives};
 ghost use Rattle.sdb_report.specs.Lines as form;
 
 use crate::{
-    Unread, after, expect, given_at, integer_at, name_at, next_how_at, reply_at, request_at,
-    text_of, u32_at,
+    Unread, after, expect, given_at, integer_at, name_at, next_how_at, next_landed_how_at,
+    reply_at, request_at, text_of, u32_at,
 };
 use itoa::Buffer;
 use sdb_model::{Answer, Event, How};
@@ -52,7 +52,7 @@ fn next_reply_at(alloc: Global, bytes: &[u8]) -> Result<(Reply, &[u8]), Unread>
     reply_at(alloc, rest)
 }
 
-// Who asked which store for what: the first half of a call's line.
+// Who asked which store for what, or which request landed there: the first half of a call's or a landing's line.
 #[tactic(auto, unfolding(crate::specs::Lines::asked_at))]
 fn asked_at(alloc: Global, bytes: &[u8]) -> Result<((u32, Name, Request), &[u8]), Unread>
     ensures { Gives (λ x. (x.0, x.1.now)) result (form.asked_at bytes.now) }
@@ -92,6 +92,36 @@ fn call_of(alloc: Global, line: &[u8]) -> Result<Event, Unread>
     let ((client, store, request), rest) = asked_at(alloc, line)?;
     let (how, reply, given) = whole_came_of(alloc, rest)?;
     Ok(Event::Call(client, store, request, how, reply, given))
+}
+
+// What became of a landing, and the store's reply: the second half.
+#[tactic(auto, unfolding(crate::specs::Lines::effect_at))]
+fn effect_at(alloc: Global, bytes: &[u8]) -> Result<((How, Reply), &[u8]), Unread>
+    ensures { Gives (λ x. (x.0, x.1.now)) result (form.effect_at bytes.now) }
+{
+    let (how, rest) = next_landed_how_at(bytes)?;
+    let (reply, rest) = next_reply_at(alloc, rest)?;
+    Ok(((how, reply), rest))
+}
+
+fn whole_effect_of(alloc: Global, bytes: &[u8]) -> Result<(How, Reply), Unread>
+    ensures { Gives (λ x. x) result (form.whole (form.effect_at bytes.now)) }
+{
+    let (effect, rest) = effect_at(alloc, bytes)?;
+    if rest.is_empty() {
+        Ok(effect)
+    } else {
+        Err(Unread::Bad)
+    }
+}
+
+#[tactic(auto, unfolding(crate::specs::Lines::land_of))]
+fn land_of(alloc: Global, line: &[u8]) -> Result<Event, Unread>
+    ensures { Gives (λ e. e) result (form.land_of line.now) }
+{
+    let ((number, store, request), rest) = asked_at(alloc, line)?;
+    let (how, reply) = whole_effect_of(alloc, rest)?;
+    Ok(Event::Land(number, store, request, how, reply))
 }
 
 fn client_of(bytes: &[u8]) -> Result<u32, Unread>
@@ -134,6 +164,9 @@ fn event_of(alloc: Global, line: &[u8]) -> Result<Event, Unread>
     }
     if let Some(rest) = after(b"idle ", line) {
         return Ok(Event::Idle(client_of(rest)?));
+    }
+    if let Some(rest) = after(b"land ", line) {
+        return land_of(alloc, rest);
     }
     Err(Unread::Bad)
 }

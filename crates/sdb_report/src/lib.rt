@@ -21,7 +21,7 @@ pub use keys::{key_at, record_at, table_at};
 pub use numbers::{id_at, integer_at, natural_at, u32_at};
 pub use refused::ReportRefused;
 pub use report::read_report;
-pub use requests::{next_how_at, reply_at, request_at};
+pub use requests::{next_how_at, next_landed_how_at, reply_at, request_at};
 pub use unread::Unread;
 pub use values::{row_at, value_at};
 pub use words::{after, expect, name_at, text_of};

@@ -124,10 +124,34 @@ fn how_at(bytes: &[u8]) -> Result<(How, &[u8]), Unread>
     if let Some(rest) = after(b"dropped", bytes) {
         return Ok((How::Discarded, rest));
     }
+    if let Some(rest) = after(b"delayed", bytes) {
+        return Ok((How::Delayed, rest));
+    }
     if let Some(rest) = after(b"failed", bytes) {
         return Ok((How::Broken, rest));
     }
     Err(Unread::Bad)
+}
+
+#[tactic(auto, unfolding(crate::specs::Lines::landed_how_at))]
+fn landed_how_at(bytes: &[u8]) -> Result<(How, &[u8]), Unread>
+    ensures { Gives (λ x. (x.0, x.1.now)) result (form.landed_how_at bytes.now) }
+{
+    if let Some(rest) = after(b"seen", bytes) {
+        return Ok((How::Seen, rest));
+    }
+    if let Some(rest) = after(b"failed", bytes) {
+        return Ok((How::Broken, rest));
+    }
+    Err(Unread::Bad)
+}
+
+/// What became of a landing, after a space.
+pub fn next_landed_how_at(bytes: &[u8]) -> Result<(How, &[u8]), Unread>
+    ensures { Gives (λ x. (x.0, x.1.now)) result (form.behind_space form.landed_how_at bytes.now) }
+{
+    let rest = expect(b" ", bytes)?;
+    landed_how_at(rest)
 }
 
 /// What became of a call, after a space.

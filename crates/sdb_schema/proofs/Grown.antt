@@ -107,11 +107,11 @@ never_twice (d ∷ ds) h =
 
 ---- why a table refuses a column
 
-taken_so : (a b d : Bool) → cond {A = Option ℕ} a (Some 2) (cond b (Some 3) (cond d None (Some 4))) ≡ None → (a ≡ false) × (b ≡ false) × (d ≡ true)
-taken_so true b d h = none_some 2 (sym h)
-taken_so false true d h = none_some 3 (sym h)
-taken_so false false true h = (refl, refl, refl)
-taken_so false false false h = none_some 4 (sym h)
+allowed_so : (a b d : Bool) → cond {A = Option ℕ} a (Some 2) (cond b (Some 3) (cond d None (Some 4))) ≡ None → (a ≡ false) × (b ≡ false) × (d ≡ true)
+allowed_so true b d h = none_some 2 (sym h)
+allowed_so false true d h = none_some 3 (sym h)
+allowed_so false false true h = (refl, refl, refl)
+allowed_so false false false h = none_some 4 (sym h)
 
 ---- a table with a column more
 
@@ -164,8 +164,8 @@ checked_still t c up free few h =
 
 -- a table takes a column that it doesn't refuse
 pub grown_is_table : (t : Table) (c : Column) → is_table t ≡ true → column_refused_by t c ≡ None → nat_le (length c.name) 64 ≡ true → is_name c.name ≡ true → is_table (grown t c) ≡ true
-grown_is_table t c h taken short named =
-    let parts = taken_so (has_column t.columns c.name) (is_reserved c.name) (nat_lt (length t.columns) 64) taken in
+grown_is_table t c h allowed short named =
+    let parts = allowed_so (has_column t.columns c.name) (is_reserved c.name) (nat_lt (length t.columns) 64) allowed in
     let up = rises-put c t.columns (and_first (columns_rise t.columns) _ h) parts.0 in
     let rest = and_second (columns_rise t.columns) (list_all (λ (d : Column). is_column_name d.name) t.columns && is_ok (checked_table t)) h in
     let own = and_both (nat_le (length c.name) 64) (is_identifier c.name) short (and_second (nat_le (length c.name) 71) (is_identifier c.name) named) in

@@ -53,7 +53,7 @@ impl ColumnRefused {
 
 // Whether a table takes a column.
 fn check(table: &Table, column: &Column) -> Result<(), ColumnRefused>
-    ensures taken { OnOk result (column_refused_by table.now column.now ≡ None) }
+    ensures allowed { OnOk result (column_refused_by table.now column.now ≡ None) }
     ensures refused { IfErr result (λ e. number_of e ≡ column_refused_by table.now column.now) }
 {
     if lists(table.columns.as_slice(), &column.name) {
@@ -77,7 +77,7 @@ impl Table {
     pub fn with_column(&self, column: &Column) -> Result<Table, ColumnRefused>
         requires { nat_le (length column.now.name) 64 ≡ true }
         ensures ok { IfOk result (λ t. t ≡ grown self.now column.now) }
-        ensures taken { OnOk result (column_refused_by self.now column.now ≡ None) }
+        ensures allowed { OnOk result (column_refused_by self.now column.now ≡ None) }
         ensures table { IfOk result (λ t. is_table self.now ≡ true → is_table t ≡ true) }
         ensures refused { IfErr result (λ e. number_of e ≡ column_refused_by self.now column.now) }
     {

@@ -123,7 +123,7 @@ fn grow(tables: &mut Seq<Table>, name: &TableName, column: &Column) -> Result<()
     requires catalog { is_catalog tables.old ≡ true }
     requires short { nat_le (length column.now.name) 64 ≡ true }
     ensures ok { OnOk result (tables.new ≡ with_column tables.old name.now column.now) }
-    ensures taken { OnOk result (column_refused tables.old name.now column.now ≡ None) }
+    ensures allowed { OnOk result (column_refused tables.old name.now column.now ≡ None) }
     ensures catalog { is_catalog tables.new ≡ true }
     ensures err { OnErr result (tables.new ≡ tables.old) }
     ensures refused { IfErr result (λ e. number_of e ≡ column_refused tables.old name.now column.now) }
@@ -162,7 +162,7 @@ impl Catalog {
     pub fn add_column(&mut self, table: &TableName, column: Column) -> Result<(), ColumnRefused>
         requires { nat_le (length column.name) 64 ≡ true }
         ensures ok { OnOk result (self.new ≡ with_column self.old table.now column) }
-        ensures taken { OnOk result (column_refused self.old table.now column ≡ None) }
+        ensures allowed { OnOk result (column_refused self.old table.now column ≡ None) }
         ensures err { OnErr result (self.new ≡ self.old) }
         ensures refused { IfErr result (λ e. number_of e ≡ column_refused self.old table.now column) }
     {

@@ -141,7 +141,7 @@ schema_more stores front line ps false cat [] true ms json tables st fit e first
 ---- a client
 
 none_said : (name : List ℕ) → is_client_name name ≡ true → IsClient (new_client name)
-none_said name h = record { named = h; said = All-nil (λ text. 0 < length text); few = omega arith }
+none_said name h = record { named = h; nonempty = All-nil (λ text. 0 < length text); few = omega arith }
 
 client_more : (stores front : Lines) (line : List ℕ) (ps : List Place) (desc : Bool) (cat : List Table) (cs : List ScriptClient) (ran : Bool) (ms : List Move) (name : List ℕ)
     → IsBegun stores front (record { places = ps; described = desc; catalog = cat; clients = cs; ran = ran; moves = ms })
@@ -175,7 +175,7 @@ client_more stores front line ps desc cat cs true ms name st fit e before named 
 told_more : (c : ScriptClient) (text : List ℕ) → IsClient c → 0 < length text → length c.statements < most_statements → IsClient (with_statement c text)
 told_more c text is some few = record {
   named = is.named;
-  said = All-push (λ t. 0 < length t) c.statements text is.said some;
+  nonempty = All-push (λ t. 0 < length t) c.statements text is.nonempty some;
   few = omega (arith, few, length-append c.statements (text ∷ []));
 }
 

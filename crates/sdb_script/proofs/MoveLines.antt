@@ -12,8 +12,8 @@ use Rattle.sdb_script.specs.Types.{Act, Move}
 use Rattle.sdb_model.specs.declared.script.Act.TheVariants as act
 use Rattle.sdb_model.specs.declared.script.Move.TheVariants as move
 use Rattle.sdb_script.specs.Words.{Counts, numeral_in}
-use Rattle.sdb_script.specs.Lines.{act_line, move_line, IsActText, IsMoveText, is_client, is_act, is_move, turns, latest}
-use Rattle.sdb_script.specs.Reading.{client_in, act_in, repeat_of, step_in, clock_of, clock_in, rest_in, clock_or, stop_or, drop_or, lose_or, move_in}
+use Rattle.sdb_script.specs.Lines.{act_line, move_line, IsActText, IsMoveText, is_client, is_delayed_number, is_act, is_move, turns, latest, most_moves}
+use Rattle.sdb_script.specs.Reading.{client_in, act_in, repeat_of, step_in, clock_of, clock_in, rest_in, clock_or, stop_or, land_of, land_in, land_or, delay_or, drop_or, lose_or, move_in}
 use Rattle.sdb_script.proofs.Pieces.{same_bytes, no_some, map_is, bind_is, map_or_is}
 use Rattle.sdb_script.proofs.Numerals.{numeral_no_space, around_again, around_none, around_is, counted_is, counted_again, text_counts, counts_text}
 use Rattle.sdb_types.specs.NameText.{around}
@@ -69,6 +69,13 @@ rest_is n line m h =
     (λ t. subst (Says n line) (some_is move.Rest m (rw t at h)) (same_bytes line (codes "rest") t, refl))
     (λ t. no_some m (rw t at h))
 
+land_is : (n : ℕ) (line word : List ℕ) (m : Move) → line ≡ codes "land " ++ word → land_in word ≡ Some m → Says n line m
+land_is n line word m e h =
+    let b = bind_is land_of (numeral_in word) m h in
+    by_test (is_delayed_number b.0)
+    (λ t. subst (Says n line) (some_is (move.Act (act.Land b.0)) m (rw t at b.2)) ((word, e, counted_is word b.0 b.1), t))
+    (λ t. no_some m (rw t at b.2))
+
 clock_or_is : (n : ℕ) (line : List ℕ) (m : Move) → clock_or line ≡ Some m → Says n line m
 clock_or_is n line m h =
     elim (map_or_is clock_in (rest_in line) (after_front (codes "clock ") line) (Some m) h) [
@@ -83,11 +90,25 @@ stop_or_is n line m h =
       | inr g ↦ clock_or_is n line m g.1
     ]
 
+land_or_is : (n : ℕ) (line : List ℕ) (m : Move) → land_or n line ≡ Some m → Says n line m
+land_or_is n line m h =
+    elim (map_or_is land_in (stop_or n line) (after_front (codes "land ") line) (Some m) h) [
+      | inl f ↦ land_is n line f.0 m (is_front (codes "land ") line f.0 f.1) f.2
+      | inr g ↦ stop_or_is n line m g.1
+    ]
+
+delay_or_is : (n : ℕ) (line : List ℕ) (m : Move) → delay_or n line ≡ Some m → Says n line m
+delay_or_is n line m h =
+    elim (map_or_is (act_in n act.Delay) (land_or n line) (after_front (codes "delay ") line) (Some m) h) [
+      | inl f ↦ let a = act_said n act.Delay f.0 m f.2 in subst (Says n line) a.1 ((f.0, is_front (codes "delay ") line f.0 f.1, a.2), a.3)
+      | inr g ↦ land_or_is n line m g.1
+    ]
+
 drop_or_is : (n : ℕ) (line : List ℕ) (m : Move) → drop_or n line ≡ Some m → Says n line m
 drop_or_is n line m h =
-    elim (map_or_is (act_in n act.Discard) (stop_or n line) (after_front (codes "drop ") line) (Some m) h) [
+    elim (map_or_is (act_in n act.Discard) (delay_or n line) (after_front (codes "drop ") line) (Some m) h) [
       | inl f ↦ let a = act_said n act.Discard f.0 m f.2 in subst (Says n line) a.1 ((f.0, is_front (codes "drop ") line f.0 f.1, a.2), a.3)
-      | inr g ↦ stop_or_is n line m g.1
+      | inr g ↦ delay_or_is n line m g.1
     ]
 
 lose_or_is : (n : ℕ) (line : List ℕ) (m : Move) → lose_or n line ≡ Some m → Says n line m
@@ -124,11 +145,16 @@ clock_again word ms k late =
     let t : nat_le ms 9007199254740992 ≡ true = grind (arith, nat_tests) in
     rw (counted_again word ms k, t) refl
 
+land_again : (word : List ℕ) (k : ℕ) → Counts word k → is_delayed_number k ≡ true → land_in word ≡ Some (move.Act (act.Land k))
+land_again word k counts fits = rw (counted_again word k counts, fits) refl
+
 act_line_again : (n : ℕ) (line : List ℕ) (a : Act) → IsActText line a → is_act n a ≡ true → move_in n line ≡ Some (move.Act a)
 unfolding move_in
 act_line_again n line (act.Step c) s h = subst (λ (x : List ℕ). move_in n x ≡ Some (move.Act (act.Step c))) (sym s.1) (step_again n s.0 c s.2 h)
 act_line_again n line (act.Lose c) s h = subst (λ (x : List ℕ). move_in n x ≡ Some (move.Act (act.Lose c))) (sym s.1) (act_again n act.Lose s.0 c s.2 h)
 act_line_again n line (act.Discard c) s h = subst (λ (x : List ℕ). move_in n x ≡ Some (move.Act (act.Discard c))) (sym s.1) (act_again n act.Discard s.0 c s.2 h)
+act_line_again n line (act.Delay c) s h = subst (λ (x : List ℕ). move_in n x ≡ Some (move.Act (act.Delay c))) (sym s.1) (act_again n act.Delay s.0 c s.2 h)
+act_line_again n line (act.Land k) s h = subst (λ (x : List ℕ). move_in n x ≡ Some (move.Act (act.Land k))) (sym s.1) (land_again s.0 k s.2 h)
 act_line_again n line (act.Stop c) s h = subst (λ (x : List ℕ). move_in n x ≡ Some (move.Act (act.Stop c))) (sym s.1) (act_again n act.Stop s.0 c s.2 h)
 act_line_again n line (act.Clock (pos ms)) s h =
     subst (λ (x : List ℕ). move_in n x ≡ Some (move.Act (act.Clock (pos ms)))) (sym s.1) (clock_again s.0 ms s.2 (and_second (int_le (pos 0) (pos ms)) _ h))
@@ -149,10 +175,15 @@ client_small n c few h = let k = and_second (nat_le 1 c) _ h in grind (arith, na
 numbered : (front line : List ℕ) (n c : ℕ) → n ≤ 64 → is_client n c ≡ true → (word : List ℕ) × (line ≡ front ++ word) × Counts word c → line ≡ front ++ decimal c
 numbered front line n c few h s = s.1 ∙ ap (λ (x : List ℕ). front ++ x) (counts_text s.0 c s.2 (client_small n c few h))
 
+delayed_small : (k : ℕ) → is_delayed_number k ≡ true → k < 2 ^ 64
+delayed_small k h = let e = and_second (nat_le 1 k) (nat_le k most_moves) h in grind (arith, nat_tests)
+
 act_text : (n : ℕ) (line : List ℕ) (a : Act) → n ≤ 64 → is_act n a ≡ true → IsActText line a → line ≡ act_line a
 act_text n line (act.Step c) few h s = numbered (codes "step ") line n c few h s
 act_text n line (act.Lose c) few h s = numbered (codes "lose ") line n c few h s
 act_text n line (act.Discard c) few h s = numbered (codes "drop ") line n c few h s
+act_text n line (act.Delay c) few h s = numbered (codes "delay ") line n c few h s
+act_text n line (act.Land k) few h s = s.1 ∙ ap (λ (x : List ℕ). codes "land " ++ x) (counts_text s.0 k s.2 (delayed_small k h))
 act_text n line (act.Stop c) few h s = numbered (codes "stop ") line n c few h s
 act_text n line (act.Clock (pos ms)) few h s =
     let late = and_second (int_le (pos 0) (pos ms)) _ h in
@@ -175,6 +206,8 @@ text_act : (n : ℕ) (a : Act) → n ≤ 64 → is_act n a ≡ true → IsActTex
 text_act n (act.Step c) few h = (decimal c, refl, said n c few h)
 text_act n (act.Lose c) few h = (decimal c, refl, said n c few h)
 text_act n (act.Discard c) few h = (decimal c, refl, said n c few h)
+text_act n (act.Delay c) few h = (decimal c, refl, said n c few h)
+text_act n (act.Land k) few h = (decimal k, refl, text_counts k (delayed_small k h))
 text_act n (act.Stop c) few h = (decimal c, refl, said n c few h)
 text_act n (act.Clock (pos ms)) few h =
     let late = and_second (int_le (pos 0) (pos ms)) _ h in

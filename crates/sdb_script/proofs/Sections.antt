@@ -127,7 +127,7 @@ client_goes stores ps described catalog done c is new few fit =
     goes_one stores d e (client_line c.name) (ClientOf c.name)
     (and_first (is_line (client_line c.name)) _ fit, refl, and_both (is_client_name c.name) _ is.named (isnt _ new)) (rw room refl) in
     goes_then stores d e (with_clients ps described catalog (done ++ c ∷ [])) (client_line c.name ∷ []) (map text_line c.statements) step
-    (texts_go stores ps described catalog done c.name [] c.statements is.said is.few (and_second (is_line (client_line c.name)) _ fit))
+    (texts_go stores ps described catalog done c.name [] c.statements is.nonempty is.few (and_second (is_line (client_line c.name)) _ fit))
 
 clients_go : (stores : Lines) (ps : List Place) (described : Bool) (catalog : List Table) (done cs : List ScriptClient) → AreClients (done ++ cs) → list_all is_line (flat_map client_lines cs) ≡ true
     → Goes stores (with_clients ps described catalog done) (flat_map client_lines cs) (with_clients ps described catalog (done ++ cs))

@@ -44,7 +44,7 @@ IsSchema true catalog lines = (json : List ℕ) × (lines ≡ schema_line json �
 -- A client of at most 20,000 statements, none of them empty.
 pub record IsClient (c : ScriptClient) : Type 0 where
   pub named : is_client_name c.name ≡ true
-  pub said : All (λ text. 0 < length text) c.statements
+  pub nonempty : All (λ text. 0 < length text) c.statements
   pub few : length c.statements ≤ most_statements
 
 -- At most 64 clients, whose names differ.

@@ -51,11 +51,13 @@ text_line text = codes "  " ++ text
 abbrev pub client_lines : ScriptClient → List (List ℕ)
 client_lines c = client_line c.name ∷ map text_line c.statements
 
--- `step C`, `lose C`, `drop C`, `stop C` and `clock MS`
+-- `step C`, `lose C`, `drop C`, `delay C`, `land K`, `stop C` and `clock MS`
 abbrev pub act_line : Act → List ℕ
 act_line (act.Step c) = codes "step " ++ decimal c
 act_line (act.Lose c) = codes "lose " ++ decimal c
 act_line (act.Discard c) = codes "drop " ++ decimal c
+act_line (act.Delay c) = codes "delay " ++ decimal c
+act_line (act.Land k) = codes "land " ++ decimal k
 act_line (act.Stop c) = codes "stop " ++ decimal c
 act_line (act.Clock ms) = codes "clock " ++ signed_decimal ms
 
@@ -70,6 +72,8 @@ abbrev pub IsActText : List ℕ → Act → Type 0
 IsActText line (act.Step c) = (word : List ℕ) × (line ≡ codes "step " ++ word) × Counts word c
 IsActText line (act.Lose c) = (word : List ℕ) × (line ≡ codes "lose " ++ word) × Counts word c
 IsActText line (act.Discard c) = (word : List ℕ) × (line ≡ codes "drop " ++ word) × Counts word c
+IsActText line (act.Delay c) = (word : List ℕ) × (line ≡ codes "delay " ++ word) × Counts word c
+IsActText line (act.Land k) = (word : List ℕ) × (line ≡ codes "land " ++ word) × Counts word k
 IsActText line (act.Stop c) = (word : List ℕ) × (line ≡ codes "stop " ++ word) × Counts word c
 IsActText line (act.Clock (pos n)) = (word : List ℕ) × (line ≡ codes "clock " ++ word) × Counts word n
 IsActText line (act.Clock (negsuc n)) = ⊥
@@ -90,11 +94,17 @@ is_line line = nat_le (length line) most_line && is_utf8 line
 abbrev pub is_client : ℕ → ℕ → Bool
 is_client n c = nat_le 1 c && nat_le c n
 
+-- the number of a delayed call: a script can't delay more calls than it has moves
+abbrev pub is_delayed_number : ℕ → Bool
+is_delayed_number k = nat_le 1 k && nat_le k most_moves
+
 -- an act over so many clients, whose clock is from 0 to 2^53
 abbrev pub is_act : ℕ → Act → Bool
 is_act n (act.Step c) = is_client n c
 is_act n (act.Lose c) = is_client n c
 is_act n (act.Discard c) = is_client n c
+is_act n (act.Delay c) = is_client n c
+is_act n (act.Land k) = is_delayed_number k
 is_act n (act.Stop c) = is_client n c
 is_act n (act.Clock ms) = int_le (pos 0) ms && int_le ms latest
 

@@ -15,7 +15,7 @@ use Rattle.sdb_script.specs.declared.fault.LineRefused.TheVariants as refused
 use Rattle.sdb_script.specs.declared.fault.ScriptRefused.{ScriptRefused}
 use Rattle.sdb_script.specs.declared.fault.ScriptRefused.TheVariants.{BadLine, Limit, NoMemory as OutOfMemory}
 use Rattle.sdb_script.specs.Words.{numeral_in}
-use Rattle.sdb_script.specs.Lines.{most_bytes, most_line, most_clients, most_statements, most_moves, is_client, turns, turns_of}
+use Rattle.sdb_script.specs.Lines.{most_bytes, most_line, most_clients, most_statements, most_moves, is_client, is_delayed_number, turns, turns_of}
 use Rattle.sdb_script.specs.Begun.{Draft, nothing, is_first, is_known, may_be_placed, last_count}
 use Rattle.sdb_script.specs.Whole.{last_line}
 use Rattle.sdb_types.specs.NameText.{around}
@@ -52,8 +52,20 @@ clock_or line = option_map_or clock_in (after_front (codes "clock ") line) (rest
 abbrev pub stop_or : ℕ → List ℕ → Option Move
 stop_or n line = option_map_or (act_in n act.Stop) (after_front (codes "stop ") line) (clock_or line)
 
+abbrev pub land_of : ℕ → Option Move
+land_of k = if is_delayed_number k then Some (move.Act (act.Land k)) else None
+
+abbrev pub land_in : List ℕ → Option Move
+land_in word = option_and_then land_of (numeral_in word)
+
+abbrev pub land_or : ℕ → List ℕ → Option Move
+land_or n line = option_map_or land_in (after_front (codes "land ") line) (stop_or n line)
+
+abbrev pub delay_or : ℕ → List ℕ → Option Move
+delay_or n line = option_map_or (act_in n act.Delay) (after_front (codes "delay ") line) (land_or n line)
+
 abbrev pub drop_or : ℕ → List ℕ → Option Move
-drop_or n line = option_map_or (act_in n act.Discard) (after_front (codes "drop ") line) (stop_or n line)
+drop_or n line = option_map_or (act_in n act.Discard) (after_front (codes "drop ") line) (delay_or n line)
 
 abbrev pub lose_or : ℕ → List ℕ → Option Move
 lose_or n line = option_map_or (act_in n act.Lose) (after_front (codes "lose ") line) (drop_or n line)

@@ -10,6 +10,9 @@ use sdb_model::{Act, Move};
 // One past the number of moves that a script may have.
 const TOO_MANY: u64 = 200_001;
 
+// The most calls that a script can delay: it has no more moves.
+const MOST_DELAYED: u64 = 200_000;
+
 // The latest moment that a clock can show.
 const LATEST: u64 = 9_007_199_254_740_992;
 
@@ -60,6 +63,24 @@ fn drop_in(clients: u32, word: &str) -> Option<Move>
     Some(Move::Act(Act::Discard(client_in(clients, word)?)))
 }
 
+fn delay_in(clients: u32, word: &str) -> Option<Move>
+    ensures { result ≡ spec.act_in clients act.Delay word.now }
+{
+    Some(Move::Act(Act::Delay(client_in(clients, word)?)))
+}
+
+// The landing of the delayed call whose number a word says.
+fn land_in(word: &str) -> Option<Move>
+    ensures { result ≡ spec.land_in word.now }
+{
+    let number = numeral_in(word)?;
+    if 1 <= number && number <= MOST_DELAYED {
+        Some(Move::Act(Act::Land(number as u32)))
+    } else {
+        None
+    }
+}
+
 fn stop_in(clients: u32, word: &str) -> Option<Move>
     ensures { result ≡ spec.act_in clients act.Stop word.now }
 {
@@ -98,6 +119,10 @@ pub fn move_in(clients: u32, line: &str) -> Option<Move>
         lose_in(clients, word)
     } else if let Some(word) = after("drop ", line) {
         drop_in(clients, word)
+    } else if let Some(word) = after("delay ", line) {
+        delay_in(clients, word)
+    } else if let Some(word) = after("land ", line) {
+        land_in(word)
     } else if let Some(word) = after("stop ", line) {
         stop_in(clients, word)
     } else if let Some(word) = after("clock ", line) {

@@ -42,6 +42,8 @@ fn put_act(out: &mut String, act: Act) -> Result<(), NoMemory>
         Act::Step(client) => put_numbered(out, "step ", client),
         Act::Lose(client) => put_numbered(out, "lose ", client),
         Act::Discard(client) => put_numbered(out, "drop ", client),
+        Act::Delay(client) => put_numbered(out, "delay ", client),
+        Act::Land(number) => put_numbered(out, "land ", number),
         Act::Stop(client) => put_numbered(out, "stop ", client),
         Act::Clock(ms) => put_clock(out, ms),
     }

@@ -26,8 +26,8 @@ use Rattle.sdb_sqlite.specs.Asked.{Asked, rows_of}
 pub asked_of : {S : Type 0} (g : Ghosts S) (text : List ℕ) (params : Row) (old new : Connected S) (r : Result (Vec row.Row Global) Error)
     → (HasCleanDisk (state g new) → IfOk r (λ rows. Shown text params (state g old) (state g new) rows.items)) → (HasCleanDisk (state g new) → IfErr r (FailsToQuery text params (state g old) (state g new)))
     → new.step_limit ≡ old.step_limit → Asked g text params old new (rows_of r)
-asked_of g text params old new (Ok rows) ok err limit = record { shown = ok; limit = limit }
-asked_of g text params old new (Err e) ok err limit = record { shown = err; limit = limit }
+asked_of g text params old new (Ok rows) ok err limit = record { reported = ok; limit = limit }
+asked_of g text params old new (Err e) ok err limit = record { reported = err; limit = limit }
 
 column_short : (r : Row) (at : ℕ) → length r ≤ at → column r at ≡ Null
 column_short [] at h = refl

@@ -114,7 +114,7 @@ due_found q m due found (inr e) h = subst (λ (r : Result (Option Record) Stoppe
 pub got_is : {S : Type 0} (g : Ghosts S) (q : Key) (old new : Connected S) (found : Result (Option Record) Stopped) → IsSure g new → key_fits q → KeyIsEncodable q → HasTable (state g old) → IsGot g q old new found
     → IsFound q (state g old) (state g new) found
 got_is g q old new found sure known fits it got =
-    let shown = got.asked.shown sure.1 in
+    let shown = got.asked.reported sure.1 in
     let keeps = query_keeps get_body get_plain (Blob (key_bytes q) ∷ []) (state g old) (state g new) it got.asked.limit got.answer sure.0 shown in
     record {
       kept = keeps.0;

@@ -206,7 +206,7 @@ rows_performs span old new (Err s) same is = stopped_performs (Scan span) s (con
 scan_is : {S : Type 0} (g : Ghosts S) (span : Span) (old new : Connected S) (result : Result (List Record) Stopped) → IsSure g new → span_is_encodable span → SpanIsEncodable span → HasTable (state g old) → IsScanned g span old new result
     → IsAnswered (Scan span) (rows_reply result) (state g old) (state g new)
 scan_is g span old new result sure known fits it got =
-    let shown = got.asked.shown sure.1 in
+    let shown = got.asked.reported sure.1 in
     let keeps = query_keeps (span_text span.partition) (plain span.partition) (span_params span.table span.partition) (state g old) (state g new) it got.asked.limit got.answer sure.0 shown in
     record { kept = keeps.0; performed = rows_performs span (state g old) (state g new) result keeps.1 (by_answer got.answer shown got.listed) }
   where

@@ -26,7 +26,7 @@ use Rattle.sdb_sqlite.specs.Statements.{get_body, scan_table, scan_partition, ad
 -- The query was asked with these parameters and answered so, where the disk returned what was written; nothing else was asked
 -- between.
 pub record Asked {S : Type 0} (g : Ghosts S) (text : List ℕ) (params : Row) (old new : Connected S) (answer : Result (List Row) Error) : Type 0 where
-  pub shown : HasCleanDisk (state g new) → MatchResult answer (Shown text params (state g old) (state g new)) (FailsToQuery text params (state g old) (state g new))
+  pub reported : HasCleanDisk (state g new) → MatchResult answer (Shown text params (state g old) (state g new)) (FailsToQuery text params (state g old) (state g new))
   pub limit : new.step_limit ≡ old.step_limit
 
 -- the same of a statement that writes

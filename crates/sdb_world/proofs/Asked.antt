@@ -14,7 +14,11 @@ use Rattle.sdb_world.specs.Step.{HasStopped, HasStarted}
 pub asks_pushed : (u w : WorldAt) → u ≡ w → (more : List Event) (e : Event) (a b : Attached) → more ≡ u.events ++ e ∷ [] → AskedBy e a b → AsksOnce a b w.events more
 asks_pushed u w same more e a b came asked = record { event = e; came = came ∙ ap (λ (x : WorldAt). x.events ++ e ∷ []) same; asked = asked }
 
--- a call was made, or discarded
+-- a request landed
+pub asks_landed : (u w : WorldAt) → u ≡ w → (more : List Event) (number : ℕ) (store : Name) (q : Request) (h : How) (r : Reply) (a b : Attached) → more ≡ u.events ++ event.Land number store q h r ∷ [] → IsDelivered q h r a b → AsksOnce a b w.events more
+asks_landed u w same more number store q h r a b came made = asks_pushed u w same more (event.Land number store q h r) a b came made
+
+-- a call was made, or discarded, or delayed
 pub asks_called : (u w : WorldAt) → u ≡ w → (more : List Event) (c : ℕ) (store : Name) (q : Request) (h : How) (r : Reply) (answer : Option Answer) (a b : Attached) → more ≡ u.events ++ event.Call c store q h r answer ∷ [] → IsDelivered q h r a b → AsksOnce a b w.events more
 asks_called u w same more c store q h r answer a b came made = asks_pushed u w same more (event.Call c store q h r answer) a b came made
 

@@ -1,5 +1,5 @@
 -- How many calls come out Broken, event by event.
-use Rattle.std.proofs.Common.{◌≡◌, inl, inr, ℕ, suc, ◌+◌, ◌≤◌, false, cond, List, [], ◌∷◌, ◌++◌, Option, refl, sym, ap, subst, ◌∙◌, arith}
+use Rattle.std.proofs.Common.{◌≡◌, inl, inr, ℕ, suc, ◌+◌, ◌≤◌, Bool, true, false, cond, List, [], ◌∷◌, ◌++◌, Option, refl, sym, ap, subst, ◌∙◌, arith}
 use Rattle.std.proofs.lemmas.List.Sums.{sum_by_push}
 use Rattle.sdb_world.specs.Types.{Answer, Event, How, Reply, Request}
 use Rattle.sdb_stores.specs.Views.{Attached, StoreView, HaveRisen, total_faults}
@@ -42,6 +42,10 @@ breaks_after before now a b c goes h = elim h [
 
 ---- one event
 
+abbrev is_failed : How → Bool
+is_failed how.Broken = true
+is_failed h = false
+
 -- one that isn't Broken
 pub breaks_other : (es more : List Event) (e : Event) (a : List StoreView) → more ≡ es ++ e ∷ [] → is_broken e ≡ false → BreaksWithin es more a a
 breaks_other es more e a came whole =
@@ -58,20 +62,43 @@ breaks_take w v i a t = breaks_other w.events v.events (event.Take (suc i) t.tex
 pub breaks_stop : (w v : WorldAt) (c : ℕ) (a : List StoreView) → HasStopped w c v → BreaksWithin w.events v.events a a
 breaks_stop w v c a t = breaks_other w.events v.events (event.Stop c) a (ap (λ (x : WorldAt). x.events) t.left) refl
 
--- a call, which is Broken only where a count rose
-pub breaks_call : (es more : List Event) (c : ℕ) (store : Name) (q : Request) (h : How) (r : Reply) (answer : Option Answer) (a b : List StoreView) → more ≡ es ++ event.Call c store q h r answer ∷ [] → (h ≡ how.Broken → HaveRisen a b) → total_faults a ≤ total_faults b → BreaksWithin es more a b
-breaks_call es more c store q h r answer a b came cause counted = subst (λ (xs : List Event). BreaksWithin es xs a b) (sym came) (by h cause)
+-- one that is Broken only where a count rose
+breaks_one : (es more : List Event) (e : Event) (h : How) (a b : List StoreView) → more ≡ es ++ e ∷ [] → is_broken e ≡ is_failed h → (h ≡ how.Broken → HaveRisen a b) → total_faults a ≤ total_faults b → BreaksWithin es more a b
+breaks_one es more e h a b came is cause counted = subst (λ (xs : List Event). BreaksWithin es xs a b) (sym came) (by h is cause)
   where
-    by : (h : How) → (h ≡ how.Broken → HaveRisen a b) → BreaksWithin es (es ++ event.Call c store q h r answer ∷ []) a b
-    by how.Broken risen = elim (risen refl) [
-      | inl rose ↦ inl (omega (arith, broken_more es (event.Call c store q how.Broken r answer), rose))
+    whole : is_broken e ≡ false → BreaksWithin es (es ++ e ∷ []) a b
+    whole is = let more : broken_in (es ++ e ∷ []) ≡ broken_in es + 0 = broken_more es e ∙ ap (λ b. broken_in es + cond b 1 0) is in inl (omega (arith, more, counted))
+
+    by : (h : How) → is_broken e ≡ is_failed h → (h ≡ how.Broken → HaveRisen a b) → BreaksWithin es (es ++ e ∷ []) a b
+    by how.Broken is risen = elim (risen refl) [
+      | inl rose ↦ inl (let more : broken_in (es ++ e ∷ []) ≡ broken_in es + 1 = broken_more es e ∙ ap (λ b. broken_in es + cond b 1 0) is in omega (arith, more, rose))
       | inr full ↦ inr full
     ]
-    by how.Seen risen = inl (omega (arith, broken_more es (event.Call c store q how.Seen r answer), counted))
-    by how.Lost risen = inl (omega (arith, broken_more es (event.Call c store q how.Lost r answer), counted))
-    by how.Discarded risen = inl (omega (arith, broken_more es (event.Call c store q how.Discarded r answer), counted))
+    by how.Seen is risen = whole is
+    by how.Lost is risen = whole is
+    by how.Discarded is risen = whole is
+    by how.Delayed is risen = whole is
 
--- the same of a world's
+broken_call : (c : ℕ) (store : Name) (q : Request) (h : How) (r : Reply) (answer : Option Answer) → is_broken (event.Call c store q h r answer) ≡ is_failed h
+broken_call c store q how.Seen r answer = refl
+broken_call c store q how.Lost r answer = refl
+broken_call c store q how.Discarded r answer = refl
+broken_call c store q how.Delayed r answer = refl
+broken_call c store q how.Broken r answer = refl
+
+broken_land : (number : ℕ) (store : Name) (q : Request) (h : How) (r : Reply) → is_broken (event.Land number store q h r) ≡ is_failed h
+broken_land number store q how.Seen r = refl
+broken_land number store q how.Lost r = refl
+broken_land number store q how.Discarded r = refl
+broken_land number store q how.Delayed r = refl
+broken_land number store q how.Broken r = refl
+
+-- a call of a world's, which is Broken only where a count rose
 pub breaks_called : (u w : WorldAt) → u ≡ w → (more : List Event) (c : ℕ) (store : Name) (q : Request) (h : How) (r : Reply) (answer : Option Answer) (a b : List StoreView) → more ≡ u.events ++ event.Call c store q h r answer ∷ [] → (h ≡ how.Broken → HaveRisen a b) → total_faults a ≤ total_faults b → BreaksWithin w.events more a b
 breaks_called u w same more c store q h r answer a b came cause counted =
-    breaks_call w.events more c store q h r answer a b (came ∙ ap (λ (x : WorldAt). x.events ++ event.Call c store q h r answer ∷ []) same) cause counted
+    breaks_one w.events more (event.Call c store q h r answer) h a b (came ∙ ap (λ (x : WorldAt). x.events ++ event.Call c store q h r answer ∷ []) same) (broken_call c store q h r answer) cause counted
+
+-- and a landing
+pub breaks_landed : (u w : WorldAt) → u ≡ w → (more : List Event) (number : ℕ) (store : Name) (q : Request) (h : How) (r : Reply) (a b : List StoreView) → more ≡ u.events ++ event.Land number store q h r ∷ [] → (h ≡ how.Broken → HaveRisen a b) → total_faults a ≤ total_faults b → BreaksWithin w.events more a b
+breaks_landed u w same more number store q h r a b came cause counted =
+    breaks_one w.events more (event.Land number store q h r) h a b (came ∙ ap (λ (x : WorldAt). x.events ++ event.Land number store q h r ∷ []) same) (broken_land number store q h r) cause counted

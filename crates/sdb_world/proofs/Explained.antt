@@ -5,10 +5,11 @@ use Rattle.std.specs.FinMap.{empty}
 use Rattle.sdb_world.specs.Types.{Act, Event, Place, Script}
 use Rattle.sdb_model.specs.Events.{Effect, IsTrace, StoreContents}
 use Rattle.sdb_model.specs.Explained.{Explained, AreTransactional}
+use Rattle.sdb_model.specs.InFlight.{FlightsExplained}
 use Rattle.law_protocol.specs.Spread.{HoldAs}
 use Rattle.sdb_stores.specs.Views.{Attached}
 use Rattle.sdb_contents.specs.Board.{contents_of_views}
-use Rattle.law_runs.proofs.Public.{invariant_is_explained, invariant_is_accepted, invariant_on_one, lone_effect, no_coordinator}
+use Rattle.law_runs.proofs.Public.{invariant_explains_flights, invariant_is_explained, invariant_is_accepted, invariant_on_one, lone_effect, no_coordinator}
 use Rattle.sdb_client.specs.Execution.{IsExecution, IsReachedBy}
 use Rattle.law_runs.specs.World.{IsWorld, WorldAt, state_of}
 use Rattle.sdb_world.specs.Ran.{HasRun}
@@ -26,11 +27,16 @@ world_taken : (w : WorldAt) → IsWorld w → IsExecution w.script w.events → 
 world_taken w h x places opening closing moments nothing traced =
     invariant_is_accepted (record { catalog = w.script.catalog; running = invariant_on_one w.script w.events h.playable x; apart = no_coordinator w.script h.playable; places = places; opening = opening; closing = closing; moments = moments; trace = traced; about = h.about; nothing = nothing })
 
+world_flights : (w : WorldAt) → IsWorld w → IsExecution w.script w.events → (places : List Place) (opening closing : List StoreContents) (moments : List (List StoreContents)) → HoldAs w.script.catalog places opening empty → IsTrace places w.events opening moments closing → FlightsExplained w.script.catalog places w.events opening moments
+world_flights w h x places opening closing moments nothing traced =
+    invariant_explains_flights (record { catalog = w.script.catalog; running = invariant_on_one w.script w.events h.playable x; apart = no_coordinator w.script h.playable; places = places; opening = opening; closing = closing; moments = moments; trace = traced; about = h.about; nothing = nothing })
+
 -- a world that has played its script
 pub played_explained : (w : WorldAt) → IsWorld w → (events : List Event) → events ≡ w.events → (opening closing : List StoreContents) → HasRun w opening closing → IsExplained w.script events opening
 played_explained w h events same opening closing p moments end traced = record {
   explained = subst (λ (es : List Event). Explained w.script.catalog w.script.places es opening moments) (sym same) (world_explained w h p.executed w.script.places opening end moments p.nothing on);
   accepted = world_taken w h p.executed w.script.places opening end moments p.nothing on;
+  flights = subst (λ (es : List Event). FlightsExplained w.script.catalog w.script.places es opening moments) (sym same) (world_flights w h p.executed w.script.places opening end moments p.nothing on);
 }
   where
     on : IsTrace w.script.places w.events opening moments end
@@ -62,6 +68,7 @@ came_explained old new w v a (h, c) f reached opening moments nothing traced =
     record {
       traced = on;
       explained = world_explained v h (execution_more old new w v c.es reached c.gone) places opening now (moments ++ now ∷ []) (subst (λ (x : Script). HoldAs x.catalog places opening empty) (sym c.gone.script) nothing) on;
+      flights = world_flights v h (execution_more old new w v c.es reached c.gone) places opening now (moments ++ now ∷ []) (subst (λ (x : Script). HoldAs x.catalog places opening empty) (sym c.gone.script) nothing) on;
     }
 
 pub on_explained : {T E : Type 0} (r : Result T E) (old new : Attached) (w v : WorldAt) (a : Act) → OnOk r (IsWorld v) → OnOk r (HasCome (IsOne w.script.clients a w.events) old new w v) → OnOk r (IsExplainedAfter old new w v)

@@ -1,9 +1,14 @@
 -- The clients of a script before their first statement.
-use Rattle.std.proofs.Common.{◌≡◌, ℕ, List, length, refl, subst}
+use Rattle.std.proofs.Common.{◌≡◌, ℕ, List, [], length, Option, refl, subst, sym}
 use Rattle.std.specs.Prelude.{pos}
-use Rattle.sdb_world.specs.Types.{ClientSlot, Event, Script}
-use Rattle.sdb_client.specs.Execution.{AreFresh, IsInitial}
-use Rattle.law_runs.specs.World.{state_of}
+use Rattle.sdb_world.specs.Types.{ClientSlot, Event, Request, Script}
+use Rattle.sdb_client.specs.Execution.{AreFresh, IsInitial, IsPlayable}
+use Rattle.law_runs.specs.World.{IsWorld, state_of}
+use Rattle.law_runs.proofs.Public.{world_first}
 
-pub initial_new : (script : Script) (count : ℕ) (client_slots : List ClientSlot) (events : List Event) → count ≡ length script.clients → AreFresh count client_slots → IsInitial script (state_of (record { script = script; client_slots = client_slots; events = events; clock = pos 0 }))
-initial_new script count client_slots events few h = record { fresh = subst (λ (n : ℕ). AreFresh n client_slots) few h; clock = refl }
+pub initial_new : (script : Script) (count : ℕ) (client_slots : List ClientSlot) (flights : List (Option Request)) (events : List Event) → flights ≡ [] → count ≡ length script.clients → AreFresh count client_slots → IsInitial script (state_of (record { script = script; client_slots = client_slots; flights = flights; events = events; clock = pos 0 }))
+initial_new script count client_slots flights events none few h = record { none_late = none; fresh = subst (λ (n : ℕ). AreFresh n client_slots) few h; clock = refl }
+
+pub world_new : (script : Script) (count : ℕ) (client_slots : List ClientSlot) (flights : List (Option Request)) (events : List Event) → IsPlayable script → flights ≡ [] → count ≡ length script.clients → AreFresh count client_slots → events ≡ [] → IsWorld (record { script = script; client_slots = client_slots; flights = flights; events = events; clock = pos 0 })
+world_new script count client_slots flights events playable none few h empty =
+    subst (λ (fs : List (Option Request)). IsWorld (record { script = script; client_slots = client_slots; flights = fs; events = events; clock = pos 0 })) (sym none) (world_first script count client_slots events playable few h empty)

@@ -1,13 +1,17 @@
 -- Turns and moves, one after the other.
-use Rattle.std.proofs.Common.{◌≡◌, ◌⊎◌, inl, inr, ℕ, zero, suc, ◌+◌, ◌<◌, ◌≤◌, false, List, [], ◌∷◌, ◌++◌, length, take, Some, refl, sym, ap, subst, ◌∙◌, arith, append_assoc, add-one}
-use Rattle.std.specs.Prelude.{slice_get}
+use Rattle.std.proofs.Common.{◌≡◌, ◌⊎◌, inl, inr, ℕ, zero, suc, ◌+◌, ◌<◌, ◌≤◌, false, List, [], ◌∷◌, ◌++◌, length, take, Some, Result, refl, sym, ap, subst, ◌∙◌, arith, append_assoc, add-one}
+use Rattle.std.specs.Prelude.{OnOk, slice_get}
 use Rattle.std.proofs.lemmas.List.{append-nil, length-append}
 use Rattle.sdb_world.specs.Types.{Act, Event, Move, Script, ScriptClient}
 use Rattle.sdb_model.specs.declared.script.Act.TheVariants as act
 use Rattle.sdb_model.specs.declared.script.Move.TheVariants as move
 use Rattle.sdb_model.specs.Follows.{AllIdle, AreOfMoves, AreStepsOf, IsHowOfStep, IsOfMove, IsRest, IsStep, IsTurn, end_of, has_work}
+use Rattle.sdb_stores.specs.Views.{Attached}
 use Rattle.sdb_contents.proofs.Public.{take_suc}
-use Rattle.sdb_world.specs.Step.{AreSteps, CanAct, CanMove, IsNumber, IsOne}
+use Rattle.law_runs.specs.World.{WorldAt}
+use Rattle.sdb_world.specs.Step.{AreSteps, CanAct, CanMove, HasActed, HasMadeMove, IsNumber, IsOne}
+use Rattle.sdb_world.proofs.Goes.{come_as}
+use Rattle.sdb_world.proofs.Takings.{on_ok}
 
 ---- who is idle
 
@@ -117,6 +121,11 @@ can_act script m a e can = subst (λ (x : Move). CanMove script x) e can
 
 pub can_repeat : (script : Script) (m : Move) (c times : ℕ) → m ≡ move.Repeat c times → CanMove script m → IsNumber script c
 can_repeat script m c times e can = subst (λ (x : Move). CanMove script x) e can
+
+-- what an act gives is of the move that is that act
+pub act_moved : {T E : Type 0} (m : Move) (a : Act) (r : Result T E) (old new : Attached) (w v : WorldAt) → m ≡ move.Act a → OnOk r (HasActed a old new w v) → OnOk r (HasMadeMove m old new w v)
+act_moved m a r old new w v is acted =
+    on_ok r acted (λ h. subst (λ (x : Move). HasMadeMove x old new w v) (sym is) (come_as (IsOne w.script.clients a w.events) (IsOfMove w.script.clients (move.Act a) w.events) old new w v h (λ es came one. (one.event, one.lone, one.acted))))
 
 pub moved_on : (clients : List ScriptClient) (ms : List Move) (m : Move) (past es more : List Event) → AreOfMoves clients ms past es → IsOfMove clients m (past ++ es) more → AreOfMoves clients (ms ++ m ∷ []) past (es ++ more)
 moved_on clients [] m past es more h k =

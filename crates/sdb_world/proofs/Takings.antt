@@ -1,5 +1,5 @@
 -- What a client's step comes to, by what the code has of it.
-use Rattle.std.proofs.Common.{◌≡◌, ℕ, suc, ◌+◌, ◌<◌, ◌^◌, true, List, [], ◌∷◌, ◌++◌, length, Option, Some, Result, Ok, Err, IfSome, refl, sym, ap, subst, ◌∙◌, get_or, slice_set, add-zero}
+use Rattle.std.proofs.Common.{◌≡◌, ℕ, suc, ◌+◌, ◌<◌, ◌^◌, true, List, [], ◌∷◌, ◌++◌, length, Option, Some, None, Result, Ok, Err, IfSome, refl, sym, ap, subst, ◌∙◌, get_or, slice_set, add-zero}
 use Rattle.std.specs.Prelude.{OnOk, slice_get}
 use Rattle.std.proofs.Math.Numerals.{add-one}
 use Rattle.std.proofs.lemmas.Option.{slice_get_read}
@@ -9,14 +9,14 @@ use Rattle.sdb_stores.specs.Views.{Attached, home_in, names_of, table_of}
 use Rattle.sdb_model.specs.declared.event.Event.TheVariants as event
 use Rattle.sdb_model.specs.Rows.{Name}
 use Rattle.sdb_model.specs.Events.{store_of, table_asked}
-use Rattle.sdb_model.specs.Follows.{texts_of}
+use Rattle.sdb_model.specs.Follows.{IsHowOfStep, texts_of}
 use Rattle.sdb_client.specs.Client.{ClientAt, ReplyPost, client_pending, next_id, TextStep}
 use Rattle.sdb_contents.specs.Board.{AreUsable, IsMade, contents_of_views}
 use Rattle.sdb_contents.proofs.Public.{asked, named_home}
 use Rattle.sdb_world.specs.declared.delivery.Delivery.{Delivery}
-use Rattle.law_runs.specs.World.{IsWorld, WorldAt}
-use Rattle.sdb_world.specs.Step.{HasCalled, HasLeft, HasStarted, IsDeliveryOf, IsPendingAt}
-use Rattle.sdb_client.specs.Execution.{IsGateAt}
+use Rattle.law_runs.specs.World.{IsWorld, WorldAt, with_late}
+use Rattle.sdb_world.specs.Step.{HasCalled, HasLanded, HasLeft, HasStarted, IsDeliveryOf, IsPendingAt}
+use Rattle.sdb_client.specs.Execution.{IsGateAt, flights_after}
 use Rattle.sdb_types.proofs.Public.{some_is}
 use Rattle.sdb_model.specs.Tables.{is_table_of_run}
 use Rattle.sdb_model.specs.Calls.{is_stored_reply}
@@ -42,7 +42,7 @@ pub some_left : (w : WorldAt) (i : ℕ) (s : ClientSlot) → i < length w.client
 some_left w i s low read left = at_read (λ (x : ClientSlot). x.accepted < length (texts_of w.script.clients (suc i))) w.client_slots i s low read left
 
 abbrev pub after_taking : WorldAt → ℕ → ClientSlot → ClientAt → List Event → WorldAt
-after_taking u i s d es = record { script = u.script; client_slots = slice_set u.client_slots i (record { client = d; accepted = s.accepted + 1; stopped = s.stopped }); events = es; clock = u.clock }
+after_taking u i s d es = record { script = u.script; client_slots = slice_set u.client_slots i (record { client = d; accepted = s.accepted + 1; stopped = s.stopped }); flights = u.flights; events = es; clock = u.clock }
 
 -- A client took its next text.
 pub took : (u w : WorldAt) → u ≡ w → (i : ℕ) (s : ClientSlot) (text : List ℕ) (gate : Gate) (a : Option Answer) (d : ClientAt) (es : List Event) → i < length w.client_slots → s ≡ get_or w.client_slots i s → IsNextText w i text
@@ -60,14 +60,14 @@ took u w same i s text gate a d es low read next takes gated begun came =
       takes = subst (λ (x : WorldAt). TextStep (record { catalog = x.script.catalog; now = x.clock; gate = gate; fresh = next_id s.client }) text s.client a d) same takes;
       gated = gated;
       begun = begun;
-      left = λ k. record { script = w.script; client_slots = slice_set w.client_slots i (record { client = d; accepted = s.accepted + 1; stopped = s.stopped }); events = here k; clock = w.clock };
+      left = λ k. record { script = w.script; client_slots = slice_set w.client_slots i (record { client = d; accepted = s.accepted + 1; stopped = s.stopped }); flights = w.flights; events = here k; clock = w.clock };
     })
   where
     here : es ≡ w.events ++ event.Take (suc i) text a ∷ []
     here = came ∙ ap (λ (x : WorldAt). x.events ++ event.Take (i + 1) text a ∷ []) same ∙ ap (λ (n : ℕ). w.events ++ event.Take n text a ∷ []) (add-one i)
 
-abbrev pub after_calling : WorldAt → ℕ → ClientSlot → ClientAt → List Event → WorldAt
-after_calling u i s d es = record { script = u.script; client_slots = slice_set u.client_slots i (record { client = d; accepted = s.accepted; stopped = s.stopped }); events = es; clock = u.clock }
+abbrev pub after_calling : WorldAt → ℕ → ClientSlot → ClientAt → List (Option Request) → List Event → WorldAt
+after_calling u i s d fs es = record { script = u.script; client_slots = slice_set u.client_slots i (record { client = d; accepted = s.accepted; stopped = s.stopped }); flights = fs; events = es; clock = u.clock }
 
 -- the store of a call is that of its table's namespace
 pub named_store : (stores : Attached) (q : Request) (table : TableName) (store : Name) → table ≡ table_of q → slice_get (names_of stores.views) (home_in stores table.ns) ≡ Some store → {catalog : List Table} → AreUsable catalog stores → store ≡ store_of stores.places (contents_of_views stores.views) (table_asked q).ns
@@ -76,11 +76,11 @@ named_store stores q table store same found fit =
     (sym found ∙ named_home stores.places stores.views table.ns fit.some (fit.homed table.ns) ∙ ap (λ (t : TableName). Some (store_of stores.places (contents_of_views stores.views) t.ns)) (same ∙ asked q))
 
 -- A client's call was made.
-pub called : (old new : Attached) (u w : WorldAt) → u ≡ w → (i : ℕ) (s : ClientSlot) (way : Delivery) (store : Name) (q : Request) (how : How) (r : Reply) (a : Option Answer) (d : ClientAt) (es : List Event) → i < length w.client_slots → s ≡ get_or w.client_slots i s → IsPendingAt w i q → CanAnswer q r → IsDeliveryOf way how r → is_stored_reply r ≡ true
-    → ReplyPost s.client s.client.vacuum r u.clock a d → (AreUsable w.script.catalog old → is_table_of_run w.script.catalog (table_asked q) ≡ true → (store ≡ store_of old.places (contents_of_views old.views) (table_asked q).ns) × IsMade q how r old new) → es ≡ u.events ++ event.Call (i + 1) store q how r a ∷ []
-    → HasCalled old new w i way (after_calling u i s d es)
-called old new u w same i s way store q how r a d es low read pends can allowed stored answered made came =
-    subst (λ (x : WorldAt). HasCalled old new w i way (after_calling x i s d es)) (sym same)
+pub called : (old new : Attached) (u w : WorldAt) → u ≡ w → (i : ℕ) (s : ClientSlot) (way : Delivery) (store : Name) (q : Request) (how : How) (r : Reply) (a : Option Answer) (d : ClientAt) (fs : List (Option Request)) (es : List Event) → i < length w.client_slots → s ≡ get_or w.client_slots i s → IsPendingAt w i q → CanAnswer q r → IsDeliveryOf way how r → is_stored_reply r ≡ true
+    → ReplyPost s.client s.client.vacuum r u.clock a d → (AreUsable w.script.catalog old → is_table_of_run w.script.catalog (table_asked q) ≡ true → (store ≡ store_of old.places (contents_of_views old.views) (table_asked q).ns) × IsMade q how r old new) → fs ≡ flights_after u.flights how q → es ≡ u.events ++ event.Call (i + 1) store q how r a ∷ []
+    → HasCalled old new w i way (after_calling u i s d fs es)
+called old new u w same i s way store q how r a d fs es low read pends can allowed stored answered made late came =
+    subst (λ (x : WorldAt). HasCalled old new w i way (after_calling x i s d fs es)) (sym same)
     (record {
       client_slot = s;
       store = store;
@@ -96,11 +96,36 @@ called old new u w same i s way store q how r a d es low read pends can allowed 
       stored = stored;
       answered = subst (λ (x : WorldAt). ReplyPost s.client s.client.vacuum r x.clock a d) same answered;
       made = made;
-      left = λ k. record { script = w.script; client_slots = slice_set w.client_slots i (record { client = d; accepted = sym (add-zero s.accepted) k; stopped = s.stopped }); events = here k; clock = w.clock };
+      left = λ k. record { script = w.script; client_slots = slice_set w.client_slots i (record { client = d; accepted = sym (add-zero s.accepted) k; stopped = s.stopped }); flights = flown k; events = here k; clock = w.clock };
     })
   where
+    flown : fs ≡ flights_after w.flights how q
+    flown = late ∙ ap (λ (x : WorldAt). flights_after x.flights how q) same
+
     here : es ≡ w.events ++ event.Call (suc i) store q how r a ∷ []
     here = came ∙ ap (λ (x : WorldAt). x.events ++ event.Call (i + 1) store q how r a ∷ []) same ∙ ap (λ (n : ℕ). w.events ++ event.Call n store q how r a ∷ []) (add-one i)
+
+abbrev pub after_landing : WorldAt → List (Option Request) → List Event → WorldAt
+after_landing u fs es = record { script = u.script; client_slots = u.client_slots; flights = fs; events = es; clock = u.clock }
+
+-- A request landed.
+pub landed : (old new : Attached) (u w : WorldAt) (number place : ℕ) (store : Name) (q : Request) (how : How) (r : Reply) (es : List Event) → number ≡ suc place → slice_get w.flights place ≡ Some (Some q) → u ≡ with_late w (slice_set w.flights place None) → CanAnswer q r → IsHowOfStep how r → is_stored_reply r ≡ true
+    → (AreUsable w.script.catalog old → is_table_of_run w.script.catalog (table_asked q) ≡ true → (store ≡ store_of old.places (contents_of_views old.views) (table_asked q).ns) × IsMade q how r old new) → es ≡ u.events ++ event.Land number store q how r ∷ []
+    → HasLanded old new w number (after_landing u u.flights es)
+landed old new u w number place store q how r es number_is at left can allowed stored made came = record {
+  place = place;
+  store = store;
+  request = q;
+  how = how;
+  reply = r;
+  number_is = number_is;
+  at = at;
+  can = can;
+  allowed = allowed;
+  stored = stored;
+  made = made;
+  left = ap (λ (x : WorldAt). after_landing x x.flights es) left ∙ ap (λ (xs : List Event). after_landing w (slice_set w.flights place None) xs) (came ∙ ap (λ (x : WorldAt). x.events ++ event.Land number store q how r ∷ []) left);
+}
 
 -- what follows of a success
 pub on_ok : {T E A B : Type 0} (r : Result T E) → OnOk r A → (A → B) → OnOk r B

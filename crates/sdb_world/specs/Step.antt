@@ -1,5 +1,6 @@
 -- The steps of a world, and what they do to the stores.
-use Rattle.std.specs.Prelude.{◌≡◌, ℕ, suc, ◌≤◌, ◌<◌, ◌^◌, true, List, [], ◌∷◌, ◌++◌, length, Option, Some, IfSome, slice_get}
+use Rattle.std.specs.Prelude.{◌≡◌, ℕ, zero, suc, ◌≤◌, ◌<◌, ◌^◌, true, List, [], ◌∷◌, ◌++◌, length, Option, Some, None, IfSome, slice_get, slice_set}
+use Rattle.std.specs.Option.{option_and_then}
 use Rattle.std.specs.List.{AllByRecursion}
 use Rattle.sdb_world.specs.Types.{Act, Answer, ClientSlot, Event, Gate, How, Move, Reply, Request, Script, ScriptClient}
 use Rattle.sdb_types.specs.Contents.{CanAnswer}
@@ -9,14 +10,14 @@ use Rattle.sdb_model.specs.declared.script.Act.TheVariants as act
 use Rattle.sdb_model.specs.declared.script.Move.TheVariants as move
 use Rattle.sdb_model.specs.Rows.{Name}
 use Rattle.sdb_model.specs.Events.{IsTrace, StoreContents, store_of, table_asked}
-use Rattle.sdb_model.specs.Follows.{AllIdle, AreOfMoves, AreStepsOf, IsActed, IsAmong, IsHowOfDiscard, IsHowOfLose, IsHowOfStep, IsOfMove, has_work, texts_of}
+use Rattle.sdb_model.specs.Follows.{AllIdle, AreOfMoves, AreStepsOf, IsActed, IsAmong, IsHowOfDelay, IsHowOfDiscard, IsHowOfLose, IsHowOfStep, IsOfMove, has_work, texts_of}
 use Rattle.sdb_client.specs.Client.{ClientAt, IsBusy, IsIdle, ReplyPost, client_pending, next_id, TextStep}
 use Rattle.sdb_stores.specs.Views.{Attached}
 use Rattle.sdb_contents.specs.Board.{AreUsable, IsMade, contents_of_views}
 use Rattle.sdb_world.specs.declared.delivery.Delivery.{Delivery}
 use Rattle.sdb_world.specs.declared.delivery.Delivery.TheVariants as way
-use Rattle.law_runs.specs.World.{WorldAt, state_of, with_event, with_client}
-use Rattle.sdb_client.specs.Execution.{IsGateAt, IsPath, client_after, client_stopped}
+use Rattle.law_runs.specs.World.{WorldAt, state_of, with_client, with_event, with_late}
+use Rattle.sdb_client.specs.Execution.{IsGateAt, IsPath, client_after, client_stopped, flights_after}
 use Rattle.sdb_model.specs.Tables.{is_table_of_run}
 use Rattle.sdb_model.specs.Calls.{is_stored_reply}
 
@@ -29,6 +30,8 @@ abbrev pub CanAct : Script → Act → Type 0
 CanAct script (act.Step c) = IsNumber script c
 CanAct script (act.Lose c) = IsNumber script c
 CanAct script (act.Discard c) = IsNumber script c
+CanAct script (act.Delay c) = IsNumber script c
+CanAct script (act.Land number) = Unit {0}
 CanAct script (act.Stop c) = IsNumber script c
 CanAct script (act.Clock moment) = is_moment moment ≡ true
 
@@ -37,6 +40,7 @@ abbrev pub IsDeliveryOf : Delivery → How → Reply → Type 0
 IsDeliveryOf way.Step how r = IsHowOfStep how r
 IsDeliveryOf way.Lose how r = IsHowOfLose how r
 IsDeliveryOf way.Discard how r = IsHowOfDiscard how r
+IsDeliveryOf way.Delay how r = IsHowOfDelay how r
 
 ---- a client at a place
 
@@ -88,7 +92,36 @@ pub record HasCalled (old new : Attached) (w : WorldAt) (i : ℕ) (way : Deliver
   pub stored : is_stored_reply reply ≡ true
   pub answered : ReplyPost client_slot.client client_slot.client.vacuum reply w.clock answer client
   pub made : AreUsable w.script.catalog old → is_table_of_run w.script.catalog (table_asked request) ≡ true → (store ≡ store_of old.places (contents_of_views old.views) (table_asked request).ns) × IsMade request how reply old new
-  pub left : v ≡ with_event (with_client w i (client_after client_slot 0 client)) (event.Call (suc i) store request how reply answer)
+  pub left : v ≡ with_event (with_late (with_client w i (client_after client_slot 0 client)) (flights_after w.flights how request)) (event.Call (suc i) store request how reply answer)
+
+---- one landing
+
+-- the request in flight at a place
+abbrev pub in_flight_at : ℕ → WorldAt → Option Request
+in_flight_at zero w = None
+in_flight_at (suc place) w = option_and_then (λ (o : Option Request). o) (slice_get w.flights place)
+
+-- A request in flight of this number is in flight no more, if there is one.
+abbrev pub LeavesFlight : ℕ → WorldAt → Option Request → WorldAt → Type 0
+LeavesFlight number w None v = (in_flight_at number w ≡ None) × (v ≡ w)
+LeavesFlight number w (Some q) v = (place : ℕ) × (number ≡ suc place) × (slice_get w.flights place ≡ Some (Some q)) × (v ≡ with_late w (slice_set w.flights place None))
+
+-- A request in flight lands on the store of its table, and no client has the reply.
+pub record HasLanded (old new : Attached) (w : WorldAt) (number : ℕ) (v : WorldAt) : Type 0 where
+  pub place : ℕ
+  pub store : Name
+  pub request : Request
+  pub how : How
+  pub reply : Reply
+  pub number_is : number ≡ suc place
+  pub at : slice_get w.flights place ≡ Some (Some request)
+  pub can : CanAnswer request reply
+  pub allowed : IsHowOfStep how reply
+  pub stored : is_stored_reply reply ≡ true
+  pub made : AreUsable w.script.catalog old → is_table_of_run w.script.catalog (table_asked request) ≡ true → (store ≡ store_of old.places (contents_of_views old.views) (table_asked request).ns) × IsMade request how reply old new
+  pub left : v ≡ with_event (with_late w (slice_set w.flights place None)) (event.Land number store request how reply)
+
+---- stops
 
 -- A client stops.
 pub record HasStopped (w : WorldAt) (c : ℕ) (v : WorldAt) : Type 0 where
@@ -103,6 +136,7 @@ abbrev pub act_of : Delivery → ℕ → Act
 act_of way.Step c = act.Step c
 act_of way.Lose c = act.Lose c
 act_of way.Discard c = act.Discard c
+act_of way.Delay c = act.Delay c
 
 ---- events, and the stores
 

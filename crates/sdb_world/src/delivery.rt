@@ -9,4 +9,6 @@ pub enum Delivery {
     Lose,
     /// It isn't made, and answered by a fault.
     Discard,
+    /// It isn't made yet, and answered by a fault: its request goes into flight.
+    Delay,
 }

@@ -40,7 +40,7 @@ fn reply_lost(reply: Reply) -> Reply
     }
 }
 
-/// Makes a call on the store of its table in some way: how it came out, and the reply that its client gets.
+/// Makes a call on the store of its table in some way, or doesn't: how it came out, and the reply that its client gets.
 pub fn perform<R: Registry>(stores: &mut R, request: &Request, way: Delivery) -> (How, Reply)
     requires some { 0 < length (R.state stores.old).views }
     ensures once { IsDelivered request.now result.0 result.1 (R.state stores.old) (R.state stores.new) }
@@ -60,5 +60,6 @@ pub fn perform<R: Registry>(stores: &mut R, request: &Request, way: Delivery) ->
             (how_lost(&reply), reply_lost(reply))
         }
         Delivery::Discard => (How::Discarded, Reply::Fault),
+        Delivery::Delay => (How::Delayed, Reply::Fault),
     }
 }

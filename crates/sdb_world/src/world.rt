@@ -1,27 +1,40 @@
-//! A world, the state of a run: the clients of a script, and the events so far.
+//! A world, the state of a run: the clients of a script, the requests in flight, and the events so far.
 ghost use Rattle.std.specs.Prelude.{◌≡◌, ◌<◌, ◌≤◌, [], suc, length, Some, IfOk, OnOk, IfSome, slice_get};
 ghost use Rattle.sdb_model.specs.Follows.{has_work as has_work_lem, texts_of};
 ghost use Rattle.sdb_contents.specs.Board.{GoOn};
-ghost use Rattle.sdb_client.specs.Execution.{IsGateAt, IsInitial, IsPlayable};
+ghost use Rattle.sdb_client.specs.Execution.{IsGateAt, IsInitial, IsPlayable, flights_after};
 ghost use Rattle.law_runs.specs.World.{IsWorld, state_of};
 ghost use Rattle.sdb_world.specs.Asked.{AsksOnce};
 ghost use Rattle.sdb_world.specs.Broken.{BreaksWithin};
 ghost use Rattle.sdb_world.specs.Explained.{IsExplainedAfter};
-ghost use Rattle.sdb_world.specs.Step.{CanAct, HasActed, HasCalled, HasLeft, HasStopped, HasStarted, IsBusyAt, IsIdleAt, IsNumber, IsPendingAt, act_of};
+ghost use Rattle.sdb_world.specs.Step.{CanAct, HasActed, HasCalled, HasLeft, HasStopped, HasStarted, IsBusyAt, IsIdleAt, LeavesFlight, IsNumber, IsPendingAt, act_of};
 
 use crate::delivery::Delivery;
 use crate::perform::perform;
 use sdb_client::{ClientSlot, Gate, fresh_slots, gate_at, prove_order};
-use sdb_model::{Act, Event, Events, Script, Texts};
+use sdb_model::{Act, Event, Events, How, Script, Texts};
 use sdb_stores::{Registry, table_of};
 use sdb_types::{Duplicate, NoMemory, Request, Txt};
 use std::alloc::Global;
 use std::marker::Model;
 
+// The requests in flight after a call: that of a delayed call is one more.
+fn delay(flights: &mut Vec<Option<Request>>, how: How, request: &Request) -> Result<(), NoMemory>
+    ensures { OnOk result (flights.new.items ≡ flights_after flights.old.items how request.now) }
+{
+    match how {
+        How::Delayed => flights.push(Some(request.copy()?))?,
+        How::Seen | How::Lost | How::Discarded | How::Broken => {}
+    }
+    Ok(())
+}
+
 /// The clients of a script at work.
 pub struct World {
     script: Script,
     client_slots: Vec<ClientSlot>,
+    // The requests of the calls that were delayed, each none once it has landed.
+    flights: Vec<Option<Request>>,
     events: Events,
     clock: i64,
 }
@@ -32,6 +45,7 @@ impl Drop for World {
         let World {
             script: _,
             client_slots: _,
+            flights: _,
             events: _,
             clock: _,
         } = self;
@@ -43,7 +57,7 @@ impl Model for World {
 
     ghost Value = { WorldAt };
 
-    ghost view = { λ w. record { script = w.script; client_slots = w.client_slots.items; events = w.events; clock = w.clock } };
+    ghost view = { λ w. record { script = w.script; client_slots = w.client_slots.items; flights = w.flights.items; events = w.events; clock = w.clock } };
 }
 
 impl World {
@@ -59,6 +73,7 @@ impl World {
         Ok(World {
             script,
             client_slots,
+            flights: Vec::new(alloc),
             events: Events::new(alloc),
             clock: 0,
         })
@@ -86,6 +101,7 @@ impl World {
         let World {
             script,
             client_slots: _,
+            flights: _,
             events,
             clock: _,
         } = self;
@@ -187,6 +203,7 @@ impl World {
         let request = self.request(at)?;
         let store = stores.store_of(table_of(&request)).copy()?;
         let (how, reply) = perform(stores, &request, way);
+        delay(&mut self.flights, how, &request)?;
         prove_order(&reply);
         let answered = reply.copy()?;
         let answer = self.client_slots[at].client.advance(reply, self.clock);
@@ -222,6 +239,44 @@ impl World {
         }
     }
 
+    // The request in flight of this number, if there is one: it is in flight no more.
+    fn landing(&mut self, number: u32) -> Option<Request>
+        ensures { LeavesFlight number self.old result self.new }
+    {
+        let place = (number as usize).checked_sub(1)?;
+        if place < self.flights.len() {
+            self.flights[place].take()
+        } else {
+            None
+        }
+    }
+
+    // The request in flight of this number lands on the store of its table. Where there is none, nothing happens.
+    pub(crate) fn land<R: Registry>(&mut self, stores: &mut R, number: u32) -> Result<(), NoMemory>
+        requires some { 0 < length (R.state stores.old).views }
+        requires world { IsWorld self.old }
+        ensures world { OnOk result (IsWorld self.new) }
+        ensures acted { OnOk result (HasActed (Act.Land number) (R.state stores.old) (R.state stores.new) self.old self.new) }
+        ensures asked { OnOk result (AsksOnce (R.state stores.old) (R.state stores.new) self.old.events self.new.events) }
+        ensures broken { OnOk result (BreaksWithin self.old.events self.new.events (R.state stores.old).views (R.state stores.new).views) }
+        ensures goes { GoOn (R.state stores.old) (R.state stores.new) }
+    {
+        match self.landing(number) {
+            None => {
+                self.events.push(Event::Idle(0))?;
+                Ok(())
+            }
+            Some(request) => {
+                let store = stores.store_of(table_of(&request)).copy()?;
+                let (how, reply) = perform(stores, &request, Delivery::Step);
+                prove_order(&reply);
+                self.events
+                    .push(Event::Land(number, store, request, how, reply))?;
+                Ok(())
+            }
+        }
+    }
+
     // A client stops.
     fn stop(&mut self, client: u32) -> Result<(), NoMemory>
         requires client { (0 < client) × (client ≤ length self.old.client_slots) }
@@ -233,7 +288,7 @@ impl World {
     }
 
     /// Does one act, which gives exactly one event: a step of a client, whose call is made on the store of its table and may be lost
-    /// or discarded; a stop; a move of the clock. On stores that are fit for the run, and that held nothing of the script's tables when it
+    /// discarded or delayed; the landing of a request in flight; a stop; a move of the clock. On stores that are fit for the run, and that held nothing of the script's tables when it
     /// began, what is there at each moment is explained by the events, and what each recorded transaction read is current at its
     /// point. After `NoMemory` the world isn't used again.
     pub fn step<R: Registry>(&mut self, stores: &mut R, act: Act) -> Result<(), NoMemory>
@@ -251,6 +306,8 @@ impl World {
             Act::Step(client) => self.go(stores, client, Delivery::Step),
             Act::Lose(client) => self.go(stores, client, Delivery::Lose),
             Act::Discard(client) => self.go(stores, client, Delivery::Discard),
+            Act::Delay(client) => self.go(stores, client, Delivery::Delay),
+            Act::Land(number) => self.land(stores, number),
             Act::Stop(client) => self.stop(client),
             Act::Clock(moment) => {
                 self.clock = moment;

@@ -88,7 +88,7 @@ const BANK: &[Asked<'static>] = &[Asked {
     input: b"{\"bank.account\":{\"partition-key\":[\"id\"],\"columns\":{\"id\":\"INT\",\"balance\":\"INT\"}}}",
 }];
 
-static INPUTS: [Input; 11] = [
+static INPUTS: [Input; 14] = [
     Input {
         before: &[],
         words: REPLAY,
@@ -100,6 +100,24 @@ static INPUTS: [Input; 11] = [
         words: REPLAY,
         text: "client a\nrun\nstep 1 200000\nstep 1\n",
         end: End::Limit(4, Which::Moves),
+    },
+    Input {
+        before: &[],
+        words: REPLAY,
+        text: "client a\nrun\ndelay 1\nland 200000\n",
+        end: End::Done,
+    },
+    Input {
+        before: &[],
+        words: REPLAY,
+        text: "client a\nrun\nland 200001\n",
+        end: End::BadInput(3, Why::Form),
+    },
+    Input {
+        before: &[],
+        words: REPLAY,
+        text: "client a\nrun\ndelay 2\n",
+        end: End::BadInput(3, Why::Form),
     },
     Input {
         before: &[],

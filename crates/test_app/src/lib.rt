@@ -16,6 +16,8 @@ mod failing;
 #[cfg(test)]
 mod inputs;
 #[cfg(test)]
+mod late;
+#[cfg(test)]
 mod program;
 #[cfg(test)]
 mod puppet;

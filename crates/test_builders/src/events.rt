@@ -5,7 +5,8 @@ use sdb_model::{Answer, Event, Events, How};
 use sdb_types::{Name, NameRefused, Txt};
 use std::alloc::Global;
 
-/// An event of the client 1 as a constant. Its calls are made on the store `ordered`, and the client is handed the reply.
+/// An event of the client 1 as a constant. Its calls are made on the store `ordered`, and the client is handed the reply; late requests land
+/// there too.
 #[derive(Clone, Copy)]
 pub enum Happening {
     Take(&'static str, Option<AnswerCase>),
@@ -13,6 +14,7 @@ pub enum Happening {
     Stop(u32),
     Clock(i64),
     Idle(u32),
+    Land(u32, Ask, ReplyCase),
 }
 
 fn said_of(alloc: Global, said: Option<AnswerCase>) -> Result<Option<Answer>, NameRefused> {
@@ -40,6 +42,13 @@ fn called(
     Ok(Event::Call(1, store, request, How::Seen, reply, answer))
 }
 
+fn landed(alloc: Global, number: u32, ask: Ask, answered: ReplyCase) -> Result<Event, NameRefused> {
+    let store = Name::new(alloc, "ordered")?;
+    let request = request_of(alloc, ask)?;
+    let reply = reply_of(alloc, answered)?;
+    Ok(Event::Land(number, store, request, How::Seen, reply))
+}
+
 pub fn event_of(alloc: Global, happening: Happening) -> Result<Event, NameRefused> {
     match happening {
         Happening::Take(text, said) => accepted(alloc, text, said),
@@ -47,6 +56,7 @@ pub fn event_of(alloc: Global, happening: Happening) -> Result<Event, NameRefuse
         Happening::Stop(client) => Ok(Event::Stop(client)),
         Happening::Clock(moment) => Ok(Event::Clock(moment)),
         Happening::Idle(client) => Ok(Event::Idle(client)),
+        Happening::Land(number, ask, answered) => landed(alloc, number, ask, answered),
     }
 }
 

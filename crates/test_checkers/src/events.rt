@@ -30,6 +30,10 @@ pub enum Step {
     Decides(TxId, u32),
     // The put of COMMITTED, with this reply lost.
     Loses(TxId, u32),
+    // The put of COMMITTED, delayed.
+    Delays(TxId, u32),
+    // The put of COMMITTED takes effect late.
+    Lands(TxId),
     // The put of COMMITTED, which ends the transaction.
     Ends(TxId, u32),
     Aborts(TxId, u32, Condition),
@@ -149,12 +153,23 @@ fn decide(alloc: Global, id: TxId, client: u32, ends: Ends) -> Result<Event, Fai
     put(alloc, client, row, Condition::Absent, ends)
 }
 
-fn lose(alloc: Global, id: TxId, client: u32, ends: Ends) -> Result<Event, Fail> {
-    let store = store(alloc)?;
+fn decision(alloc: Global, id: TxId) -> Result<Request, Fail> {
     let row = coordinator_row(alloc, id, Decision::Committed, 0)?;
-    let request = Request::PutIf(row, Condition::Absent);
+    Ok(Request::PutIf(row, Condition::Absent))
+}
+
+// The put of COMMITTED, of which its client learns nothing.
+fn lose(alloc: Global, id: TxId, client: u32, how: How, ends: Ends) -> Result<Event, Fail> {
+    let store = store(alloc)?;
+    let request = decision(alloc, id)?;
     let answer = answer_of(ends);
-    Ok(Event::Call(client, store, request, How::Lost, Reply::Fault, answer))
+    Ok(Event::Call(client, store, request, how, Reply::Fault, answer))
+}
+
+fn land(alloc: Global, id: TxId) -> Result<Event, Fail> {
+    let store = store(alloc)?;
+    let request = decision(alloc, id)?;
+    Ok(Event::Land(1, store, request, How::Seen, Reply::Applied))
 }
 
 fn abort(alloc: Global, id: TxId, client: u32, condition: Condition) -> Result<Event, Fail> {
@@ -204,7 +219,9 @@ fn event_of(alloc: Global, second: Second, step: Step) -> Result<Event, Fail> {
         Step::Prepares(id, client) => prepare(alloc, second, id, client),
         Step::Checks(_, client, found) => read(alloc, client, second, found, Ends::Nothing),
         Step::Decides(id, client) => decide(alloc, id, client, Ends::Nothing),
-        Step::Loses(id, client) => lose(alloc, id, client, Ends::Nothing),
+        Step::Loses(id, client) => lose(alloc, id, client, How::Lost, Ends::Nothing),
+        Step::Delays(id, client) => lose(alloc, id, client, How::Delayed, Ends::Nothing),
+        Step::Lands(id) => land(alloc, id),
         Step::Ends(id, client) => decide(alloc, id, client, Ends::Committed),
         Step::Aborts(id, client, condition) => abort(alloc, id, client, condition),
         Step::Rolls(id, client) => roll(alloc, second, id, client, Ends::Nothing),
@@ -215,7 +232,7 @@ fn event_of(alloc: Global, second: Second, step: Step) -> Result<Event, Fail> {
         Step::Stops(client, _) => Ok(Event::Stop(client)),
         Step::Puts(id, client) => decide(alloc, id, client, Ends::Nothing),
         Step::Claims(_, client) => read(alloc, client, second, Found::Nothing, Ends::Committed),
-        Step::Denies(id, client) => lose(alloc, id, client, Ends::Faulted),
+        Step::Denies(id, client) => lose(alloc, id, client, How::Lost, Ends::Faulted),
     }
 }
 
@@ -237,6 +254,7 @@ fn role_of(alloc: Global, step: Step) -> Result<Action, Fail> {
         Step::Checks(id, _, _) => Ok(Action::Checks(id, 0)),
         Step::Decides(id, _) | Step::Ends(id, _) => Ok(Action::Decides(id, Ack::Yes)),
         Step::Loses(id, _) | Step::Denies(id, _) => Ok(Action::Decides(id, Ack::NoAck)),
+        Step::Delays(id, _) | Step::Lands(id) => Ok(Action::Decides(id, Ack::NoAck)),
         Step::Aborts(id, _, _) => Ok(Action::Aborts(id, 0, Ack::Yes)),
         Step::Stops(_, client) => Ok(Action::Stops(client)),
         Step::Reads(_, _) | Step::Sees(_, _) | Step::Scans(_) => Ok(Action::Other),

@@ -192,6 +192,34 @@ static READS: [Claim; 8] = [
     },
 ];
 
+// Landings of a COMMIT whose put of its row was to take effect late.
+static LANDINGS: [Claim; 4] = [
+    // The put of a row lands twice.
+    Claim {
+        script: "schema {\"bank.account\":{\"partition-key\":[\"id\"],\"columns\":{\"id\":\"INT\",\"balance\":\"INT\"}}}\nclient c1\n  BEGIN\n  INSERT INTO bank.account (id, balance) VALUES (1, 100)\n  COMMIT\nrun\nstep 1 5\ndelay 1\nland 1\nrest\n",
+        report: "scalardb report 1\nevents 10\n1 take 1 done : BEGIN\n2 take 1 - : INSERT INTO bank.account (id, balance) VALUES (1, 100)\n3 call 1 ordered get bank.account(1) seen found none count 1\n4 take 1 - : COMMIT\n5 call 1 ordered put bank.account(1){balance=100,tx_id='00000000-0000-0001-0000-000000000001',tx_prepared_at=0L,tx_state=1,tx_version=1} if absent seen applied -\n6 call 1 ordered put coordinator.state('00000000-0000-0001-0000-000000000001'){tx_created_at=0L,tx_state=3} if absent delayed fault -\n7 land 1 ordered put coordinator.state('00000000-0000-0001-0000-000000000001'){tx_created_at=0L,tx_state=3} if absent seen applied\n8 land 1 ordered put coordinator.state('00000000-0000-0001-0000-000000000001'){tx_created_at=0L,tx_state=3} if absent seen notmet coordinator.state('00000000-0000-0001-0000-000000000001'){tx_created_at=0L,tx_state=3}\n9 call 1 ordered get coordinator.state('00000000-0000-0001-0000-000000000001') seen found coordinator.state('00000000-0000-0001-0000-000000000001'){tx_created_at=0L,tx_state=3} -\n10 call 1 ordered put bank.account(1){balance=100,tx_committed_at=0L,tx_id='00000000-0000-0001-0000-000000000001',tx_prepared_at=0L,tx_state=3,tx_version=1} if 00000000-0000-0001-0000-000000000001 1 seen applied committed\norder 0\ntables 0\nend\n",
+        so: false,
+    },
+    // A landing that answers its client.
+    Claim {
+        script: "schema {\"bank.account\":{\"partition-key\":[\"id\"],\"columns\":{\"id\":\"INT\",\"balance\":\"INT\"}}}\nclient c1\n  BEGIN\n  INSERT INTO bank.account (id, balance) VALUES (1, 100)\n  COMMIT\nrun\nstep 1 5\ndelay 1\nland 1\nrest\n",
+        report: "scalardb report 1\nevents 8\n1 take 1 done : BEGIN\n2 take 1 - : INSERT INTO bank.account (id, balance) VALUES (1, 100)\n3 call 1 ordered get bank.account(1) seen found none count 1\n4 take 1 - : COMMIT\n5 call 1 ordered put bank.account(1){balance=100,tx_id='00000000-0000-0001-0000-000000000001',tx_prepared_at=0L,tx_state=1,tx_version=1} if absent seen applied -\n6 call 1 ordered put coordinator.state('00000000-0000-0001-0000-000000000001'){tx_created_at=0L,tx_state=3} if absent delayed applied -\n7 land 1 ordered put coordinator.state('00000000-0000-0001-0000-000000000001'){tx_created_at=0L,tx_state=3} if absent seen applied\n8 call 1 ordered put bank.account(1){balance=100,tx_committed_at=0L,tx_id='00000000-0000-0001-0000-000000000001',tx_prepared_at=0L,tx_state=3,tx_version=1} if 00000000-0000-0001-0000-000000000001 1 seen applied committed\norder 0\ntables 0\nend\n",
+        so: false,
+    },
+    // A put that takes effect both at its call and at its landing.
+    Claim {
+        script: "schema {\"bank.account\":{\"partition-key\":[\"id\"],\"columns\":{\"id\":\"INT\",\"balance\":\"INT\"}}}\nclient c1\n  BEGIN\n  INSERT INTO bank.account (id, balance) VALUES (1, 100)\n  COMMIT\nrun\nstep 1 5\ndelay 1\nland 1\nrest\n",
+        report: "scalardb report 1\nevents 9\n1 take 1 done : BEGIN\n2 take 1 - : INSERT INTO bank.account (id, balance) VALUES (1, 100)\n3 call 1 ordered get bank.account(1) seen found none count 1\n4 take 1 - : COMMIT\n5 call 1 ordered put bank.account(1){balance=100,tx_id='00000000-0000-0001-0000-000000000001',tx_prepared_at=0L,tx_state=1,tx_version=1} if absent seen applied -\n6 call 1 ordered put coordinator.state('00000000-0000-0001-0000-000000000001'){tx_created_at=0L,tx_state=3} if absent lost fault -\n7 land 1 ordered put coordinator.state('00000000-0000-0001-0000-000000000001'){tx_created_at=0L,tx_state=3} if absent seen notmet coordinator.state('00000000-0000-0001-0000-000000000001'){tx_created_at=0L,tx_state=3}\n8 call 1 ordered get coordinator.state('00000000-0000-0001-0000-000000000001') seen found coordinator.state('00000000-0000-0001-0000-000000000001'){tx_created_at=0L,tx_state=3} -\n9 call 1 ordered put bank.account(1){balance=100,tx_committed_at=0L,tx_id='00000000-0000-0001-0000-000000000001',tx_prepared_at=0L,tx_state=3,tx_version=1} if 00000000-0000-0001-0000-000000000001 1 seen applied committed\norder 0\ntables 0\nend\n",
+        so: false,
+    },
+    // Another request lands than was delayed.
+    Claim {
+        script: "schema {\"bank.account\":{\"partition-key\":[\"id\"],\"columns\":{\"id\":\"INT\",\"balance\":\"INT\"}}}\nclient c1\n  BEGIN\n  INSERT INTO bank.account (id, balance) VALUES (1, 100)\n  COMMIT\nrun\nstep 1 5\ndelay 1\nland 1\nrest\n",
+        report: "scalardb report 1\nevents 8\n1 take 1 done : BEGIN\n2 take 1 - : INSERT INTO bank.account (id, balance) VALUES (1, 100)\n3 call 1 ordered get bank.account(1) seen found none count 1\n4 take 1 - : COMMIT\n5 call 1 ordered put bank.account(1){balance=100,tx_id='00000000-0000-0001-0000-000000000001',tx_prepared_at=0L,tx_state=1,tx_version=1} if absent seen applied -\n6 call 1 ordered put coordinator.state('00000000-0000-0001-0000-000000000001'){tx_created_at=0L,tx_state=3} if absent delayed fault -\n7 land 1 ordered put coordinator.state('00000000-0000-0001-0000-000000000001'){tx_created_at=0L,tx_state=4} if absent seen applied\n8 call 1 ordered get coordinator.state('00000000-0000-0001-0000-000000000001') seen found none -\norder 0\ntables 0\nend\n",
+        so: false,
+    },
+];
+
 #[test]
 fn vacuums(rt: HostRuntime) -> Result<(), Fail> {
     all_cases(rt.alloc(), "vacuums", VACUUMS.as_slice())
@@ -215,4 +243,9 @@ fn rows(rt: HostRuntime) -> Result<(), Fail> {
 #[test]
 fn reads(rt: HostRuntime) -> Result<(), Fail> {
     all_cases(rt.alloc(), "reads", READS.as_slice())
+}
+
+#[test]
+fn forged_landings(rt: HostRuntime) -> Result<(), Fail> {
+    all_cases(rt.alloc(), "forged_landings", LANDINGS.as_slice())
 }

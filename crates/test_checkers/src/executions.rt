@@ -34,6 +34,13 @@ static RACED: [Claim; 3] = [
     },
 ];
 
+// The put of a row takes effect after its client was answered a fault.
+static LATE: [Claim; 1] = [Claim {
+    script: "schema {\"bank.account\":{\"partition-key\":[\"id\"],\"columns\":{\"id\":\"INT\",\"balance\":\"INT\"}}}\nclient c1\n  BEGIN\n  INSERT INTO bank.account (id, balance) VALUES (1, 100)\n  COMMIT\nrun\nstep 1 5\ndelay 1\nland 1\nrest\n",
+    report: "scalardb report 1\nevents 9\n1 take 1 done : BEGIN\n2 take 1 - : INSERT INTO bank.account (id, balance) VALUES (1, 100)\n3 call 1 ordered get bank.account(1) seen found none count 1\n4 take 1 - : COMMIT\n5 call 1 ordered put bank.account(1){balance=100,tx_id='00000000-0000-0001-0000-000000000001',tx_prepared_at=0L,tx_state=1,tx_version=1} if absent seen applied -\n6 call 1 ordered put coordinator.state('00000000-0000-0001-0000-000000000001'){tx_created_at=0L,tx_state=3} if absent delayed fault -\n7 land 1 ordered put coordinator.state('00000000-0000-0001-0000-000000000001'){tx_created_at=0L,tx_state=3} if absent seen applied\n8 call 1 ordered get coordinator.state('00000000-0000-0001-0000-000000000001') seen found coordinator.state('00000000-0000-0001-0000-000000000001'){tx_created_at=0L,tx_state=3} -\n9 call 1 ordered put bank.account(1){balance=100,tx_committed_at=0L,tx_id='00000000-0000-0001-0000-000000000001',tx_prepared_at=0L,tx_state=3,tx_version=1} if 00000000-0000-0001-0000-000000000001 1 seen applied committed\norder 0\ntables 0\nend\n",
+    so: true,
+}];
+
 #[test]
 fn worked_executions(rt: HostRuntime) -> Result<(), Fail> {
     all_cases(rt.alloc(), "worked_executions", WORKED.as_slice())
@@ -42,4 +49,9 @@ fn worked_executions(rt: HostRuntime) -> Result<(), Fail> {
 #[test]
 fn raced_executions(rt: HostRuntime) -> Result<(), Fail> {
     all_cases(rt.alloc(), "raced_executions", RACED.as_slice())
+}
+
+#[test]
+fn late_executions(rt: HostRuntime) -> Result<(), Fail> {
+    all_cases(rt.alloc(), "late_executions", LATE.as_slice())
 }

@@ -50,6 +50,65 @@ impl Case for Run {
     }
 }
 
+// The put of COMMITTED is delayed, and takes effect after its client was answered a fault. How often it does is no matter of the
+// rules. Not where the put was lost, nor where none was asked; nor does its client learn of it without a look.
+static LATE: [Run; 6] = [
+    Run(
+        Second::Updates,
+        &[
+            Step::Prepares(TWO, 2),
+            Step::Delays(TWO, 2),
+            Step::Lands(TWO),
+            Step::Sees(2, TWO),
+            Step::Finishes(TWO, 2),
+        ],
+        true,
+    ),
+    Run(
+        Second::Updates,
+        &[
+            Step::Prepares(TWO, 2),
+            Step::Delays(TWO, 2),
+            Step::Lands(TWO),
+            Step::Lands(TWO),
+        ],
+        true,
+    ),
+    Run(
+        Second::Updates,
+        &[
+            Step::Prepares(TWO, 2),
+            Step::Delays(TWO, 2),
+            Step::Lands(TWO),
+            Step::Finishes(TWO, 2),
+        ],
+        false,
+    ),
+    Run(
+        Second::Updates,
+        &[
+            Step::Prepares(TWO, 2),
+            Step::Loses(TWO, 2),
+            Step::Lands(TWO),
+        ],
+        false,
+    ),
+    Run(
+        Second::Updates,
+        &[Step::Prepares(TWO, 2), Step::Lands(TWO)],
+        false,
+    ),
+    Run(
+        Second::Updates,
+        &[
+            Step::Prepares(TWO, 2),
+            Step::Delays(TWO, 2),
+            Step::Lands(ONE),
+        ],
+        false,
+    ),
+];
+
 static RUNS: [Run; 21] = [
     // The reply to a decision is lost; its client looks, finds its row, and rolls forward. Not without the look, nor without the
     // prepare, nor is it denied.
@@ -224,4 +283,9 @@ static RUNS: [Run; 21] = [
 #[test]
 fn runs_are_lawful_or_not(rt: HostRuntime) -> Result<(), Fail> {
     all_cases(rt.alloc(), "lawful", RUNS.as_slice())
+}
+
+#[test]
+fn late_runs_are_lawful_or_not(rt: HostRuntime) -> Result<(), Fail> {
+    all_cases(rt.alloc(), "late", LATE.as_slice())
 }

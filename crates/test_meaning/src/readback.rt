@@ -83,6 +83,97 @@ fn worked_too(alloc: Global) -> Result<(), Fail> {
     all_cases(alloc, "worked too", WORKED_TOO.as_slice())
 }
 
+// Reports of requests that land late.
+static LATE: [Read; 5] = [
+    // late_decision_lands
+    Read::Back(
+        "scalardb report 1\nevents 23\n1 take 1 done : BEGIN\n2 take 1 - : INSERT INTO bank.account (id, balance) VALUES (1, 100)\n3 call 1 ordered get bank.account(1) seen found none count 1\n4 take 1 - : COMMIT\n5 call 1 ordered put bank.account(1){balance=100,tx_id='00000000-0000-0001-0000-000000000001',tx_prepared_at=0L,tx_state=1,tx_version=1} if absent seen applied -\n6 call 1 ordered put coordinator.state('00000000-0000-0001-0000-000000000001'){tx_created_at=0L,tx_state=3} if absent seen applied -\n7 call 1 ordered put bank.account(1){balance=100,tx_committed_at=0L,tx_id='00000000-0000-0001-0000-000000000001',tx_prepared_at=0L,tx_state=3,tx_version=1} if 00000000-0000-0001-0000-000000000001 1 seen applied committed\n8 take 2 done : BEGIN\n9 take 2 - : UPDATE bank.account SET balance = 7 WHERE id = 1\n10 call 2 ordered get bank.account(1) seen found bank.account(1){balance=100,tx_committed_at=0L,tx_id='00000000-0000-0001-0000-000000000001',tx_prepared_at=0L,tx_state=3,tx_version=1} count 1\n11 take 2 - : COMMIT\n12 call 2 ordered put bank.account(1){balance=7,before_balance=100,before_tx_committed_at=0L,before_tx_id='00000000-0000-0001-0000-000000000001',before_tx_prepared_at=0L,before_tx_state=3,before_tx_version=1,tx_id='00000000-0000-0002-0000-000000000001',tx_prepared_at=0L,tx_state=1,tx_version=2} if 00000000-0000-0001-0000-000000000001 3 seen applied -\n13 call 2 ordered put coordinator.state('00000000-0000-0002-0000-000000000001'){tx_created_at=0L,tx_state=3} if absent delayed fault -\n14 call 2 ordered get coordinator.state('00000000-0000-0002-0000-000000000001') delayed fault unknown 00000000-0000-0002-0000-000000000001\n15 land 1 ordered put coordinator.state('00000000-0000-0002-0000-000000000001'){tx_created_at=0L,tx_state=3} if absent seen applied\n16 take 3 done : BEGIN\n17 take 3 - : SELECT balance FROM bank.account WHERE id = 1\n18 call 3 ordered get bank.account(1) seen found bank.account(1){balance=7,before_balance=100,before_tx_committed_at=0L,before_tx_id='00000000-0000-0001-0000-000000000001',before_tx_prepared_at=0L,before_tx_state=3,before_tx_version=1,tx_id='00000000-0000-0002-0000-000000000001',tx_prepared_at=0L,tx_state=1,tx_version=2} -\n19 call 3 ordered get coordinator.state('00000000-0000-0002-0000-000000000001') seen found coordinator.state('00000000-0000-0002-0000-000000000001'){tx_created_at=0L,tx_state=3} -\n20 call 3 ordered put bank.account(1){balance=7,tx_committed_at=0L,tx_id='00000000-0000-0002-0000-000000000001',tx_prepared_at=0L,tx_state=3,tx_version=2} if 00000000-0000-0002-0000-000000000001 1 seen applied rows 1 (7)\n21 take 3 - : COMMIT\n22 call 3 ordered get bank.account(1) seen found bank.account(1){balance=7,tx_committed_at=0L,tx_id='00000000-0000-0002-0000-000000000001',tx_prepared_at=0L,tx_state=3,tx_version=2} -\n23 call 3 ordered put coordinator.state('00000000-0000-0003-0000-000000000001'){tx_created_at=0L,tx_state=3} if absent seen applied committed\norder 3\n00000000-0000-0001-0000-000000000001 5\n00000000-0000-0002-0000-000000000001 12\n00000000-0000-0003-0000-000000000001 21\ntables 1\ntable bank.account 1\n(7,1)\nend\n",
+    ),
+    // late_decision_loses
+    Read::Back(
+        "scalardb report 1\nevents 23\n1 take 1 done : BEGIN\n2 take 1 - : INSERT INTO bank.account (id, balance) VALUES (1, 100)\n3 call 1 ordered get bank.account(1) seen found none count 1\n4 take 1 - : COMMIT\n5 call 1 ordered put bank.account(1){balance=100,tx_id='00000000-0000-0001-0000-000000000001',tx_prepared_at=0L,tx_state=1,tx_version=1} if absent seen applied -\n6 call 1 ordered put coordinator.state('00000000-0000-0001-0000-000000000001'){tx_created_at=0L,tx_state=3} if absent seen applied -\n7 call 1 ordered put bank.account(1){balance=100,tx_committed_at=0L,tx_id='00000000-0000-0001-0000-000000000001',tx_prepared_at=0L,tx_state=3,tx_version=1} if 00000000-0000-0001-0000-000000000001 1 seen applied committed\n8 take 2 done : BEGIN\n9 take 2 - : UPDATE bank.account SET balance = 7 WHERE id = 1\n10 call 2 ordered get bank.account(1) seen found bank.account(1){balance=100,tx_committed_at=0L,tx_id='00000000-0000-0001-0000-000000000001',tx_prepared_at=0L,tx_state=3,tx_version=1} count 1\n11 take 2 - : COMMIT\n12 call 2 ordered put bank.account(1){balance=7,before_balance=100,before_tx_committed_at=0L,before_tx_id='00000000-0000-0001-0000-000000000001',before_tx_prepared_at=0L,before_tx_state=3,before_tx_version=1,tx_id='00000000-0000-0002-0000-000000000001',tx_prepared_at=0L,tx_state=1,tx_version=2} if 00000000-0000-0001-0000-000000000001 3 seen applied -\n13 call 2 ordered put coordinator.state('00000000-0000-0002-0000-000000000001'){tx_created_at=0L,tx_state=3} if absent delayed fault -\n14 call 2 ordered get coordinator.state('00000000-0000-0002-0000-000000000001') seen found none -\n15 call 2 ordered put coordinator.state('00000000-0000-0002-0000-000000000001'){tx_created_at=0L,tx_state=4} if absent seen applied -\n16 call 2 ordered put bank.account(1){balance=100,tx_committed_at=0L,tx_id='00000000-0000-0001-0000-000000000001',tx_prepared_at=0L,tx_state=3,tx_version=1} if 00000000-0000-0002-0000-000000000001 1 seen applied faulted\n17 land 1 ordered put coordinator.state('00000000-0000-0002-0000-000000000001'){tx_created_at=0L,tx_state=3} if absent seen notmet coordinator.state('00000000-0000-0002-0000-000000000001'){tx_created_at=0L,tx_state=4}\n18 take 3 done : BEGIN\n19 take 3 - : SELECT balance FROM bank.account WHERE id = 1\n20 call 3 ordered get bank.account(1) seen found bank.account(1){balance=100,tx_committed_at=0L,tx_id='00000000-0000-0001-0000-000000000001',tx_prepared_at=0L,tx_state=3,tx_version=1} rows 1 (100)\n21 take 3 - : COMMIT\n22 call 3 ordered get bank.account(1) seen found bank.account(1){balance=100,tx_committed_at=0L,tx_id='00000000-0000-0001-0000-000000000001',tx_prepared_at=0L,tx_state=3,tx_version=1} -\n23 call 3 ordered put coordinator.state('00000000-0000-0003-0000-000000000001'){tx_created_at=0L,tx_state=3} if absent seen applied committed\norder 2\n00000000-0000-0001-0000-000000000001 5\n00000000-0000-0003-0000-000000000001 21\ntables 1\ntable bank.account 1\n(100,1)\nend\n",
+    ),
+    // late_prepare_lands
+    Read::Back(
+        "scalardb report 1\nevents 23\n1 take 1 done : BEGIN\n2 take 1 - : INSERT INTO bank.account (id, balance) VALUES (1, 100)\n3 call 1 ordered get bank.account(1) seen found none count 1\n4 take 1 - : COMMIT\n5 call 1 ordered put bank.account(1){balance=100,tx_id='00000000-0000-0001-0000-000000000001',tx_prepared_at=0L,tx_state=1,tx_version=1} if absent seen applied -\n6 call 1 ordered put coordinator.state('00000000-0000-0001-0000-000000000001'){tx_created_at=0L,tx_state=3} if absent seen applied -\n7 call 1 ordered put bank.account(1){balance=100,tx_committed_at=0L,tx_id='00000000-0000-0001-0000-000000000001',tx_prepared_at=0L,tx_state=3,tx_version=1} if 00000000-0000-0001-0000-000000000001 1 seen applied committed\n8 take 2 done : BEGIN\n9 take 2 - : UPDATE bank.account SET balance = 7 WHERE id = 1\n10 call 2 ordered get bank.account(1) seen found bank.account(1){balance=100,tx_committed_at=0L,tx_id='00000000-0000-0001-0000-000000000001',tx_prepared_at=0L,tx_state=3,tx_version=1} count 1\n11 take 2 - : COMMIT\n12 call 2 ordered put bank.account(1){balance=7,before_balance=100,before_tx_committed_at=0L,before_tx_id='00000000-0000-0001-0000-000000000001',before_tx_prepared_at=0L,before_tx_state=3,before_tx_version=1,tx_id='00000000-0000-0002-0000-000000000001',tx_prepared_at=0L,tx_state=1,tx_version=2} if 00000000-0000-0001-0000-000000000001 3 delayed fault -\n13 call 2 ordered put coordinator.state('00000000-0000-0002-0000-000000000001'){tx_created_at=0L,tx_state=4} if absent seen applied -\n14 call 2 ordered put bank.account(1){balance=100,tx_committed_at=0L,tx_id='00000000-0000-0001-0000-000000000001',tx_prepared_at=0L,tx_state=3,tx_version=1} if 00000000-0000-0002-0000-000000000001 1 seen notmet bank.account(1){balance=100,tx_committed_at=0L,tx_id='00000000-0000-0001-0000-000000000001',tx_prepared_at=0L,tx_state=3,tx_version=1} faulted\n15 land 1 ordered put bank.account(1){balance=7,before_balance=100,before_tx_committed_at=0L,before_tx_id='00000000-0000-0001-0000-000000000001',before_tx_prepared_at=0L,before_tx_state=3,before_tx_version=1,tx_id='00000000-0000-0002-0000-000000000001',tx_prepared_at=0L,tx_state=1,tx_version=2} if 00000000-0000-0001-0000-000000000001 3 seen applied\n16 take 3 done : BEGIN\n17 take 3 - : SELECT balance FROM bank.account WHERE id = 1\n18 call 3 ordered get bank.account(1) seen found bank.account(1){balance=7,before_balance=100,before_tx_committed_at=0L,before_tx_id='00000000-0000-0001-0000-000000000001',before_tx_prepared_at=0L,before_tx_state=3,before_tx_version=1,tx_id='00000000-0000-0002-0000-000000000001',tx_prepared_at=0L,tx_state=1,tx_version=2} -\n19 call 3 ordered get coordinator.state('00000000-0000-0002-0000-000000000001') seen found coordinator.state('00000000-0000-0002-0000-000000000001'){tx_created_at=0L,tx_state=4} -\n20 call 3 ordered put bank.account(1){balance=100,tx_committed_at=0L,tx_id='00000000-0000-0001-0000-000000000001',tx_prepared_at=0L,tx_state=3,tx_version=1} if 00000000-0000-0002-0000-000000000001 1 seen applied rows 1 (100)\n21 take 3 - : COMMIT\n22 call 3 ordered get bank.account(1) seen found bank.account(1){balance=100,tx_committed_at=0L,tx_id='00000000-0000-0001-0000-000000000001',tx_prepared_at=0L,tx_state=3,tx_version=1} -\n23 call 3 ordered put coordinator.state('00000000-0000-0003-0000-000000000001'){tx_created_at=0L,tx_state=3} if absent seen applied committed\norder 2\n00000000-0000-0001-0000-000000000001 5\n00000000-0000-0003-0000-000000000001 21\ntables 1\ntable bank.account 1\n(100,1)\nend\n",
+    ),
+    // late_request_lands_once
+    Read::Back(
+        "scalardb report 1\nevents 24\n1 take 1 done : BEGIN\n2 take 1 - : INSERT INTO bank.account (id, balance) VALUES (1, 100)\n3 call 1 ordered get bank.account(1) seen found none count 1\n4 take 1 - : COMMIT\n5 call 1 ordered put bank.account(1){balance=100,tx_id='00000000-0000-0001-0000-000000000001',tx_prepared_at=0L,tx_state=1,tx_version=1} if absent seen applied -\n6 call 1 ordered put coordinator.state('00000000-0000-0001-0000-000000000001'){tx_created_at=0L,tx_state=3} if absent seen applied -\n7 call 1 ordered put bank.account(1){balance=100,tx_committed_at=0L,tx_id='00000000-0000-0001-0000-000000000001',tx_prepared_at=0L,tx_state=3,tx_version=1} if 00000000-0000-0001-0000-000000000001 1 seen applied committed\n8 take 2 done : BEGIN\n9 take 2 - : UPDATE bank.account SET balance = 7 WHERE id = 1\n10 call 2 ordered get bank.account(1) seen found bank.account(1){balance=100,tx_committed_at=0L,tx_id='00000000-0000-0001-0000-000000000001',tx_prepared_at=0L,tx_state=3,tx_version=1} count 1\n11 take 2 - : COMMIT\n12 call 2 ordered put bank.account(1){balance=7,before_balance=100,before_tx_committed_at=0L,before_tx_id='00000000-0000-0001-0000-000000000001',before_tx_prepared_at=0L,before_tx_state=3,before_tx_version=1,tx_id='00000000-0000-0002-0000-000000000001',tx_prepared_at=0L,tx_state=1,tx_version=2} if 00000000-0000-0001-0000-000000000001 3 delayed fault -\n13 call 2 ordered put coordinator.state('00000000-0000-0002-0000-000000000001'){tx_created_at=0L,tx_state=4} if absent seen applied -\n14 call 2 ordered put bank.account(1){balance=100,tx_committed_at=0L,tx_id='00000000-0000-0001-0000-000000000001',tx_prepared_at=0L,tx_state=3,tx_version=1} if 00000000-0000-0002-0000-000000000001 1 seen notmet bank.account(1){balance=100,tx_committed_at=0L,tx_id='00000000-0000-0001-0000-000000000001',tx_prepared_at=0L,tx_state=3,tx_version=1} faulted\n15 land 1 ordered put bank.account(1){balance=7,before_balance=100,before_tx_committed_at=0L,before_tx_id='00000000-0000-0001-0000-000000000001',before_tx_prepared_at=0L,before_tx_state=3,before_tx_version=1,tx_id='00000000-0000-0002-0000-000000000001',tx_prepared_at=0L,tx_state=1,tx_version=2} if 00000000-0000-0001-0000-000000000001 3 seen applied\n16 idle 0\n17 take 3 done : BEGIN\n18 take 3 - : SELECT balance FROM bank.account WHERE id = 1\n19 call 3 ordered get bank.account(1) seen found bank.account(1){balance=7,before_balance=100,before_tx_committed_at=0L,before_tx_id='00000000-0000-0001-0000-000000000001',before_tx_prepared_at=0L,before_tx_state=3,before_tx_version=1,tx_id='00000000-0000-0002-0000-000000000001',tx_prepared_at=0L,tx_state=1,tx_version=2} -\n20 call 3 ordered get coordinator.state('00000000-0000-0002-0000-000000000001') seen found coordinator.state('00000000-0000-0002-0000-000000000001'){tx_created_at=0L,tx_state=4} -\n21 call 3 ordered put bank.account(1){balance=100,tx_committed_at=0L,tx_id='00000000-0000-0001-0000-000000000001',tx_prepared_at=0L,tx_state=3,tx_version=1} if 00000000-0000-0002-0000-000000000001 1 seen applied rows 1 (100)\n22 take 3 - : COMMIT\n23 call 3 ordered get bank.account(1) seen found bank.account(1){balance=100,tx_committed_at=0L,tx_id='00000000-0000-0001-0000-000000000001',tx_prepared_at=0L,tx_state=3,tx_version=1} -\n24 call 3 ordered put coordinator.state('00000000-0000-0003-0000-000000000001'){tx_created_at=0L,tx_state=3} if absent seen applied committed\norder 2\n00000000-0000-0001-0000-000000000001 5\n00000000-0000-0003-0000-000000000001 22\ntables 1\ntable bank.account 1\n(100,1)\nend\n",
+    ),
+    // every form, written by hand
+    Read::Back(
+        "scalardb report 1\nevents 9\n1 call 1 a get a.b(1) delayed fault -\n2 land 1 a get a.b(1) seen found none\n3 land 1 a get a.b(1) failed fault\n4 land 2 a scan a.b seen rows 2 a.b(1){x=1} a.b(2){}\n5 land 3 a delete a.b(1) if absent seen notmet a.b(1){x=1}\n6 land 4 a put none.b(1){x=1} if 00000000-0000-0001-0000-000000000001 3 seen notmet none\n7 land 0 a scan a.b(1) seen nomemory\n8 land 4294967295 a get a.b(1) seen found none.b(1){}\n9 idle 0\norder 0\ntables 0\nend\n",
+    ),
+];
+
+fn late(alloc: Global) -> Result<(), Fail> {
+    all_cases(alloc, "late", LATE.as_slice())
+}
+
+static WRONG_LATE: [Read; 14] = [
+    Read::Bad(
+        "scalardb report 1\nevents 1\n1 land 1 a get a.b(1) lost fault\n",
+        3,
+    ),
+    Read::Bad(
+        "scalardb report 1\nevents 1\n1 land 1 a get a.b(1) dropped fault\n",
+        3,
+    ),
+    Read::Bad(
+        "scalardb report 1\nevents 1\n1 land 1 a get a.b(1) delayed fault\n",
+        3,
+    ),
+    Read::Bad(
+        "scalardb report 1\nevents 1\n1 land 1 a get a.b(1) seen found none -\n",
+        3,
+    ),
+    Read::Bad(
+        "scalardb report 1\nevents 1\n1 land 1 a get a.b(1) seen found none \n",
+        3,
+    ),
+    Read::Bad(
+        "scalardb report 1\nevents 1\n1 land 1 a get a.b(1) seen found\n",
+        3,
+    ),
+    Read::Bad(
+        "scalardb report 1\nevents 1\n1 land 1 a get a.b(1) seen\n",
+        3,
+    ),
+    Read::Bad(
+        "scalardb report 1\nevents 1\n1 land 1 a get a.b(1) failed\n",
+        3,
+    ),
+    Read::Bad(
+        "scalardb report 1\nevents 1\n1 land 01 a get a.b(1) seen fault\n",
+        3,
+    ),
+    Read::Bad(
+        "scalardb report 1\nevents 1\n1 land 4294967296 a get a.b(1) seen fault\n",
+        3,
+    ),
+    Read::Bad(
+        "scalardb report 1\nevents 1\n1 land a get a.b(1) seen fault\n",
+        3,
+    ),
+    Read::Bad(
+        "scalardb report 1\nevents 1\n1 land 1 get a.b(1) seen fault\n",
+        3,
+    ),
+    Read::Bad(
+        "scalardb report 1\nevents 1\n1 land 1 a get a.b(1) late fault\n",
+        3,
+    ),
+    Read::Bad(
+        "scalardb report 1\nevents 1\n1 call 1 a get a.b(1) delay fault -\n",
+        3,
+    ),
+];
+
+fn wrong_late(alloc: Global) -> Result<(), Fail> {
+    all_cases(alloc, "wrong late", WRONG_LATE.as_slice())
+}
+
 static WRONG: [Read; 40] = [
     Read::Bad("", 1),
     Read::Bad("scalardb report 2\n", 1),
@@ -203,5 +294,7 @@ fn wrong(alloc: Global) -> Result<(), Fail> {
 fn reports_are_read_back(rt: HostRuntime) -> Result<(), Fail> {
     worked(rt.alloc())?;
     worked_too(rt.alloc())?;
-    wrong(rt.alloc())
+    wrong(rt.alloc())?;
+    late(rt.alloc())?;
+    wrong_late(rt.alloc())
 }

@@ -148,7 +148,7 @@ impl Case for Reported {
     }
 }
 
-static EVENTS: [Reported; 2] = [
+static EVENTS: [Reported; 3] = [
     Reported(&[], "scalardb report 1\nevents 0\norder 0\ntables 0\nend\n"),
     Reported(
         &[
@@ -157,6 +157,14 @@ static EVENTS: [Reported; 2] = [
             Happening::Idle(2),
         ],
         "scalardb report 1\nevents 3\n1 stop 2\n2 clock 15000\n3 idle 2\norder 0\ntables 0\nend\n",
+    ),
+    Reported(
+        &[
+            Happening::Land(1, Ask::Put(DECISION, Condition::Absent), ReplyCase::Applied),
+            Happening::Land(2, Ask::Get(ACCOUNT), ReplyCase::Found(None)),
+            Happening::Idle(0),
+        ],
+        "scalardb report 1\nevents 3\n1 land 1 ordered put coordinator.state('00000000-0000-0001-0000-000000000001'){tx_created_at=0L,tx_state=3} if absent seen applied\n2 land 2 ordered get bank.account(1) seen found none\n3 idle 0\norder 0\ntables 0\nend\n",
     ),
 ];
 

@@ -17,6 +17,8 @@ fn put_act(alloc: Global, out: &mut String, act: Act) -> Result<(), AllocError> 
         Act::Step(client) => put_number(alloc, out, " step ", i64::from(client)),
         Act::Lose(client) => put_number(alloc, out, " lose ", i64::from(client)),
         Act::Discard(client) => put_number(alloc, out, " drop ", i64::from(client)),
+        Act::Delay(client) => put_number(alloc, out, " delay ", i64::from(client)),
+        Act::Land(number) => put_number(alloc, out, " land ", i64::from(number)),
         Act::Stop(client) => put_number(alloc, out, " stop ", i64::from(client)),
         Act::Clock(ms) => put_number(alloc, out, " clock ", ms),
     }
@@ -418,8 +420,43 @@ fn moves(alloc: Global) -> Result<(), Fail> {
     all_cases(alloc, "moves", MOVES.as_slice())
 }
 
+// Calls that are delayed, and requests that land.
+static LATE: [Check; 21] = [
+    Check::Tells(
+        "client a\nrun\ndelay 1\nland 1\nland 200000\nrest\n",
+        "tables 0 a run delay 1 land 1 land 200000 rest",
+    ),
+    Check::Tells("run\nland 1\n", "tables 0 run land 1"),
+    Check::Tells("client a\nrun\nland 0\n", "3 form"),
+    Check::Tells("client a\nrun\nland 200001\n", "3 form"),
+    Check::Tells("client a\nrun\nland 18446744073709551617\n", "3 form"),
+    Check::Tells("client a\nrun\nland 01\n", "3 form"),
+    Check::Tells("client a\nrun\nland +1\n", "3 form"),
+    Check::Tells("client a\nrun\nland -1\n", "3 form"),
+    Check::Tells("client a\nrun\nland\n", "3 form"),
+    Check::Tells("client a\nrun\nland \n", "3 form"),
+    Check::Tells("client a\nrun\nland 1 2\n", "3 form"),
+    Check::Tells("client a\nrun\nland 1 \n", "3 form"),
+    Check::Tells("client a\nland 1\nrun\n", "2 form"),
+    Check::Tells("client a\nrun\ndelay 0\n", "3 form"),
+    Check::Tells("client a\nrun\ndelay 9\n", "3 form"),
+    Check::Tells("client a\nrun\ndelay 01\n", "3 form"),
+    Check::Tells("client a\nrun\ndelay 1 2\n", "3 form"),
+    Check::Tells("client a\nrun\nDELAY 1\n", "3 form"),
+    Check::Tells(
+        "client a\nrun\nstep 1 199999\nland 1\n",
+        "tables 0 a run step 1x199999 land 1",
+    ),
+    Check::Tells("client a\nrun\nstep 1 200000\nland 1\n", "4 over moves"),
+    Check::Tells("client a\nrun\nstep 1 200000\nland 0\n", "4 form"),
+];
+
+fn late(alloc: Global) -> Result<(), Fail> {
+    all_cases(alloc, "late", LATE.as_slice())
+}
+
 // Worked ones first.
-static PRINTED: [Check; 10] = [
+static PRINTED: [Check; 11] = [
     Check::Prints(
         "schema {\"bank.account\":{\"partition-key\":[\"id\"],\"columns\":{\"id\":\"INT\",\"balance\":\"INT\"}}}\nclient a\n  BEGIN\n  INSERT INTO bank.account (id, balance) VALUES (1, 100)\n  COMMIT\nrun\nrest\n",
         "schema {\"bank.account\":{\"clustering-key\":[],\"columns\":{\"balance\":\"INT\",\"id\":\"INT\"},\"partition-key\":[\"id\"],\"secondary-index\":[]}}\nclient a\n  BEGIN\n  INSERT INTO bank.account (id, balance) VALUES (1, 100)\n  COMMIT\nrun\nrest\n",
@@ -454,6 +491,10 @@ static PRINTED: [Check; 10] = [
         "place shop ordered\nplace coordinator sqlite\nschema {\"bank.account\":{\"clustering-key\":[],\"columns\":{\"id\":\"INT\"},\"partition-key\":[\"id\"],\"secondary-index\":[]},\"shop.orders\":{\"clustering-key\":[\"placed DESC\",\"raw ASC\"],\"columns\":{\"customer\":\"INT\",\"note\":\"TEXT\",\"paid\":\"BOOLEAN\",\"placed\":\"BIGINT\",\"raw\":\"BLOB\"},\"partition-key\":[\"customer\"],\"secondary-index\":[\"note\",\"paid\"]}}\nclient a\nclient b\n  SELECT *\n   \nrun\nstep 2\nstep 1 200\nlose 1\ndrop 2\nstop 1\nclock 9007199254740992\nclock 0\n",
     ),
     Check::Prints("schema {}\nrun", "run\n"),
+    Check::Prints(
+        "client a\nrun\ndelay 1\nland 1\nland 200000",
+        "client a\nrun\ndelay 1\nland 1\nland 200000\n",
+    ),
 ];
 
 fn are_printed(alloc: Global) -> Result<(), Fail> {
@@ -465,7 +506,8 @@ fn scripts_are_read(rt: HostRuntime) -> Result<(), Fail> {
     worked(rt.alloc())?;
     places(rt.alloc())?;
     client_lines(rt.alloc())?;
-    moves(rt.alloc())
+    moves(rt.alloc())?;
+    late(rt.alloc())
 }
 
 #[test]

@@ -3,6 +3,7 @@ use Rattle.check_protocol.proofs.StateLaws.{taken_is}
 use Rattle.check_protocol.proofs.TakeLaws.{begin_is, is_begin, take_is, is_take}
 use Rattle.check_protocol.proofs.CallLaws.{prepare_is, is_prepare, check_is, is_check, decide_is, is_decide, abort_is, is_abort}
 use Rattle.check_protocol.proofs.KnownLaws.{lawful_sound}
+use Rattle.check_protocol.proofs.LateLaws.{delayed_is, is_delayed}
 use Rattle.check_protocol.proofs.RollLaws.{roll_is, is_roll, remove_is, is_remove}
 use Rattle.check_protocol.proofs.WholeLaw.{sound, lawful_is, is_lawful}
 use Rattle.check_protocol.proofs.tests.rules_are_decided.Goals as goal
@@ -30,6 +31,9 @@ returns-clause-roll c n t k d l = (roll_is n.past n.plans n.event t k d, is_roll
 
 pub returns-clause-remove : goal.returns-clause-remove
 returns-clause-remove c n k t = (remove_is n.past n.plans n.event k t, is_remove n.past n.event k t)
+
+pub returns-clause-delayed : goal.returns-clause-delayed
+returns-clause-delayed c past q a = (delayed_is past q a, is_delayed past q a)
 
 pub returns-clause-whole : goal.returns-clause-whole
 returns-clause-whole c past plans = (lawful_is plans past, is_lawful plans past)

@@ -1,4 +1,4 @@
-use Rattle.law_answers.proofs.Whole.{clock_all, idles_all, stops_all}
+use Rattle.law_answers.proofs.Whole.{clock_all, idles_all, lands_all, stops_all}
 use Rattle.law_answers.proofs.clock.stops_and_clock.Goals as goal
 
 pub returns-clause-stops : goal.returns-clause-stops
@@ -9,3 +9,6 @@ returns-clause-idles x = λ k c. idles_all k.catalog k.events k.now k.states c k
 
 pub returns-clause-moves : goal.returns-clause-moves
 returns-clause-moves x = λ k moment. clock_all k.catalog k.events k.now moment k.states k.tied
+
+pub returns-clause-lands : goal.returns-clause-lands
+returns-clause-lands x = λ k number store q how r. lands_all k.catalog k.events k.now k.states number store q how r k.tied

@@ -35,7 +35,7 @@ returns-clause-known g c =
     let new = g.R.Registry.state c.alter.new.stores in
     let read = c.in_ok-entries.ensures.read in
     let found : entry_named c.in_ok-entries.entries c.args.table.now ≡ Some c.in-Some.entry.now = ap (λ (es : List Entry). entry_named es c.args.table.now) (sym c.as_slice.ensures) ∙ sym c.in-Some.ensures in
-    let own : column_refused_by c.in-Some.entry.now.table c.args.column.now ≡ None → is_table c.in-Some.entry.now.table ≡ true → is_table (grown c.in-Some.entry.now.table c.args.column.now) ≡ true = λ taken h. grown_is_table c.in-Some.entry.now.table c.args.column.now h taken c.requires.short c.as_str-name.ensures.named in
+    let own : column_refused_by c.in-Some.entry.now.table c.args.column.now ≡ None → is_table c.in-Some.entry.now.table ≡ true → is_table (grown c.in-Some.entry.now.table c.args.column.now) ≡ true = λ allowed h. grown_is_table c.in-Some.entry.now.table c.args.column.now h allowed c.requires.short c.as_str-name.ensures.named in
     altered_in c.args.table.now c.args.column.now c.in_ok-entries.entries c.in-Some.entry.now old mid read c.in_ok-entries.ensures.unchanged c.in_ok-entries.ensures.goes.where_known found own c.in_ok-alteration_text.field-0 c.in_ok-outcome.outcome new.views c.in_ok-outcome.ensures.came c.in_ok-alteration_text.ensures
 
 pub returns-in_err-entries-clause-left : goal.returns-in_err-entries-clause-left
@@ -72,7 +72,7 @@ returns-in_err-outcome-clause-left g c =
     let new = g.R.Registry.state c.alter.new.stores in
     let read = c.in_ok-entries.ensures.read in
     let found : entry_named c.in_ok-entries.entries c.args.table.now ≡ Some c.in-Some.entry.now = ap (λ (es : List Entry). entry_named es c.args.table.now) (sym c.as_slice.ensures) ∙ sym c.in-Some.ensures in
-    let own : column_refused_by c.in-Some.entry.now.table c.args.column.now ≡ None → is_table c.in-Some.entry.now.table ≡ true → is_table (grown c.in-Some.entry.now.table c.args.column.now) ≡ true = λ taken h. grown_is_table c.in-Some.entry.now.table c.args.column.now h taken c.requires.short c.as_str-name.ensures.named in
+    let own : column_refused_by c.in-Some.entry.now.table c.args.column.now ≡ None → is_table c.in-Some.entry.now.table ≡ true → is_table (grown c.in-Some.entry.now.table c.args.column.now) ≡ true = λ allowed h. grown_is_table c.in-Some.entry.now.table c.args.column.now h allowed c.requires.short c.as_str-name.ensures.named in
     passed_on _ c.from_residual-in_err-outcome.result (cause_of c.in_err-outcome.field-0.0) c.from_residual-in_err-outcome.ensures.1
     (left_in c.args.table.now c.args.column.now c.in_ok-entries.entries c.in-Some.entry.now old mid read c.in_ok-entries.ensures.unchanged c.in_ok-entries.ensures.goes.where_known found own c.in_err-outcome.field-0.0 new c.in_err-outcome.ensures.err c.in_err-outcome.ensures.left)
 
@@ -91,7 +91,7 @@ returns-in_err-alteration_text-clause-left g c =
     let new = g.R.Registry.state c.alter.new.stores in
     let read = c.in_ok-entries.ensures.read in
     let found : entry_named c.in_ok-entries.entries c.args.table.now ≡ Some c.in-Some.entry.now = ap (λ (es : List Entry). entry_named es c.args.table.now) (sym c.as_slice.ensures) ∙ sym c.in-Some.ensures in
-    let own : column_refused_by c.in-Some.entry.now.table c.args.column.now ≡ None → is_table c.in-Some.entry.now.table ≡ true → is_table (grown c.in-Some.entry.now.table c.args.column.now) ≡ true = λ taken h. grown_is_table c.in-Some.entry.now.table c.args.column.now h taken c.requires.short c.as_str-name.ensures.named in
+    let own : column_refused_by c.in-Some.entry.now.table c.args.column.now ≡ None → is_table c.in-Some.entry.now.table ≡ true → is_table (grown c.in-Some.entry.now.table c.args.column.now) ≡ true = λ allowed h. grown_is_table c.in-Some.entry.now.table c.args.column.now h allowed c.requires.short c.as_str-name.ensures.named in
     passed_on _ c.from_residual-in_err-alteration_text.result unaltered.NoMemory c.from_residual-in_err-alteration_text.ensures.1
     (left_by_text c.args.table.now c.args.column.now c.in_ok-entries.entries c.in-Some.entry.now old mid read c.in_ok-entries.ensures.unchanged c.in_ok-entries.ensures.goes.where_known found own c.in_ok-outcome.outcome new c.in_ok-outcome.ensures.came)
 

@@ -1,7 +1,7 @@
 use Rattle.std.proofs.Common.{sym, subst}
 use Rattle.sdb_world.specs.Types.{How, Reply}
 use Rattle.sdb_contents.specs.Board.{IsDelivered, IsMade, how_lost}
-use Rattle.sdb_contents.proofs.Public.{discarded, lost, once_lost, once_seen, unasked}
+use Rattle.sdb_contents.proofs.Public.{delayed, discarded, lost, once_lost, once_seen, unasked}
 use Rattle.sdb_model.specs.Follows.{IsHowOfLose, IsHowOfStep}
 use Rattle.sdb_world.specs.declared.delivery.Delivery.{Delivery}
 use Rattle.sdb_world.specs.Step.{IsDeliveryOf}
@@ -49,6 +49,12 @@ returns-in-Lose-clause-once g c =
     let r = c.call-reply-in-Lose.result in
     subst (λ (h : How). IsDelivered c.args.request.now h c.reply_lost.result old new) (sym c.how_lost.ensures)
     (subst (λ (x : Reply). IsDelivered c.args.request.now (how_lost r) x old new) (sym c.reply_lost.ensures) (once_lost c.args.request.now r old new c.call-reply-in-Lose.ensures.once))
+
+pub returns-in-Delay-clause-made : goal.returns-in-Delay-clause-made
+returns-in-Delay-clause-made g c = λ f. delayed (g.R.Registry.state c.args.stores.now) c.args.request.now f
+
+pub returns-in-Delay-clause-once : goal.returns-in-Delay-clause-once
+returns-in-Delay-clause-once g c = unasked (g.R.Registry.state c.args.stores.now)
 
 pub returns-in-Discard-clause-once : goal.returns-in-Discard-clause-once
 returns-in-Discard-clause-once g c = unasked (g.R.Registry.state c.args.stores.now)

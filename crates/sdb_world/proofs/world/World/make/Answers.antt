@@ -1,4 +1,4 @@
-use Rattle.sdb_world.proofs.Rounds.{can_act, can_repeat}
+use Rattle.sdb_world.proofs.Rounds.{act_moved, can_act, can_repeat}
 use Rattle.sdb_world.proofs.world.World.make.Goals as goal
 
 pub step-requires-clause-act : goal.step-requires-clause-act
@@ -6,3 +6,6 @@ step-requires-clause-act g c = can_act c.args.self.now.script c.args.made c.in-A
 
 pub repeat-requires-clause-client : goal.repeat-requires-clause-client
 repeat-requires-clause-client g c = can_repeat c.args.self.now.script c.args.made c.in-Repeat.client c.in-Repeat.times c.in-Repeat.is c.requires.can
+
+pub returns-in-Act-clause-come : goal.returns-in-Act-clause-come
+returns-in-Act-clause-come g c = act_moved c.args.made c.in-Act.act c.step.result (g.R.Registry.state c.args.stores.now) (g.R.Registry.state c.step.new.stores) c.args.self.now c.step.new.self c.in-Act.is c.step.ensures.acted

@@ -1,9 +1,8 @@
-use Rattle.law_runs.proofs.Public.{world_first}
-use Rattle.sdb_world.proofs.Fresh.{initial_new}
+use Rattle.sdb_world.proofs.Fresh.{initial_new, world_new}
 use Rattle.sdb_world.proofs.world.World.new.Goals as goal
 
 pub returns-clause-world : goal.returns-clause-world
-returns-clause-world c = world_first c.args.script c.len.result c.in_ok-client_slots.client_slots.items c.new.result c.requires.playable c.len.ensures c.in_ok-client_slots.ensures c.new.ensures
+returns-clause-world c = world_new c.args.script c.len.result c.in_ok-client_slots.client_slots.items c.new.result.items c.new-2.result c.requires.playable c.new.ensures.items c.len.ensures c.in_ok-client_slots.ensures c.new-2.ensures
 
 pub returns-clause-initial : goal.returns-clause-initial
-returns-clause-initial c = initial_new c.args.script c.len.result c.in_ok-client_slots.client_slots.items c.new.result c.len.ensures c.in_ok-client_slots.ensures
+returns-clause-initial c = initial_new c.args.script c.len.result c.in_ok-client_slots.client_slots.items c.new.result.items c.new-2.result c.new.ensures.items c.len.ensures c.in_ok-client_slots.ensures

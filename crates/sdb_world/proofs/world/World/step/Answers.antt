@@ -28,7 +28,7 @@ returns-in_ok-push-in-Clock-clause-world g c =
     let same : to_z w64 (of_z w64 c.in-Clock.moment) ≡ c.in-Clock.moment = search rules in
     let came = c.in_ok-push-in-Clock.ensures.ok ∙ ap (λ (m : ℤ). c.self.inside.events ++ event.Clock m ∷ []) same in
     let held = g.R.Registry.state c.args.stores.now in
-    (subst (λ (z : ℤ). Came held held c.args.self.now c.args.act (record { script = c.self.inside.script; client_slots = c.self.inside.client_slots.items; events = c.push.new.self; clock = z })) (sym same)
+    (subst (λ (z : ℤ). Came held held c.args.self.now c.args.act (record { script = c.self.inside.script; client_slots = c.self.inside.client_slots.items; flights = c.self.inside.flights.items; events = c.push.new.self; clock = z })) (sym same)
     (goes_clock held _ c.args.self.now c.self.view_is c.push.new.self c.args.act c.in-Clock.moment c.requires.world c.in-Clock.is c.requires.act came)).0
 
 pub returns-in_ok-push-in-Clock-clause-acted : goal.returns-in_ok-push-in-Clock-clause-acted
@@ -36,7 +36,7 @@ returns-in_ok-push-in-Clock-clause-acted g c =
     let same : to_z w64 (of_z w64 c.in-Clock.moment) ≡ c.in-Clock.moment = search rules in
     let came = c.in_ok-push-in-Clock.ensures.ok ∙ ap (λ (m : ℤ). c.self.inside.events ++ event.Clock m ∷ []) same in
     let held = g.R.Registry.state c.args.stores.now in
-    (subst (λ (z : ℤ). Came held held c.args.self.now c.args.act (record { script = c.self.inside.script; client_slots = c.self.inside.client_slots.items; events = c.push.new.self; clock = z })) (sym same)
+    (subst (λ (z : ℤ). Came held held c.args.self.now c.args.act (record { script = c.self.inside.script; client_slots = c.self.inside.client_slots.items; flights = c.self.inside.flights.items; events = c.push.new.self; clock = z })) (sym same)
     (goes_clock held _ c.args.self.now c.self.view_is c.push.new.self c.args.act c.in-Clock.moment c.requires.world c.in-Clock.is c.requires.act came)).1
 
 pub returns-in-Step-clause-explained : goal.returns-in-Step-clause-explained
@@ -51,6 +51,14 @@ pub returns-in-Discard-clause-explained : goal.returns-in-Discard-clause-explain
 returns-in-Discard-clause-explained g c =
     on_explained c.go-in-Discard.result (g.R.Registry.state c.args.stores.now) (g.R.Registry.state c.go-in-Discard.new.stores) c.args.self.now c.go-in-Discard.new.self (act.Discard c.in-Discard.client) c.go-in-Discard.ensures.world c.go-in-Discard.ensures.acted
 
+pub returns-in-Delay-clause-explained : goal.returns-in-Delay-clause-explained
+returns-in-Delay-clause-explained g c =
+    on_explained c.go-in-Delay.result (g.R.Registry.state c.args.stores.now) (g.R.Registry.state c.go-in-Delay.new.stores) c.args.self.now c.go-in-Delay.new.self (act.Delay c.in-Delay.client) c.go-in-Delay.ensures.world c.go-in-Delay.ensures.acted
+
+pub returns-in-Land-clause-explained : goal.returns-in-Land-clause-explained
+returns-in-Land-clause-explained g c =
+    on_explained c.land.result (g.R.Registry.state c.args.stores.now) (g.R.Registry.state c.land.new.stores) c.args.self.now c.land.new.self (act.Land c.in-Land.number) c.land.ensures.world c.land.ensures.acted
+
 pub returns-in-Stop-clause-explained : goal.returns-in-Stop-clause-explained
 returns-in-Stop-clause-explained g c =
     let held = g.R.Registry.state c.args.stores.now in
@@ -63,7 +71,7 @@ returns-in_ok-push-in-Clock-clause-explained g c =
     let came = c.in_ok-push-in-Clock.ensures.ok ∙ ap (λ (m : ℤ). c.self.inside.events ++ event.Clock m ∷ []) same in
     let held = g.R.Registry.state c.args.stores.now in
     came_explained held held c.args.self.now _ c.args.act
-    (subst (λ (z : ℤ). Came held held c.args.self.now c.args.act (record { script = c.self.inside.script; client_slots = c.self.inside.client_slots.items; events = c.push.new.self; clock = z })) (sym same)
+    (subst (λ (z : ℤ). Came held held c.args.self.now c.args.act (record { script = c.self.inside.script; client_slots = c.self.inside.client_slots.items; flights = c.self.inside.flights.items; events = c.push.new.self; clock = z })) (sym same)
     (goes_clock held _ c.args.self.now c.self.view_is c.push.new.self c.args.act c.in-Clock.moment c.requires.world c.in-Clock.is c.requires.act came))
 
 pub returns-in-Stop-clause-broken : goal.returns-in-Stop-clause-broken
