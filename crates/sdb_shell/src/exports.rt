@@ -58,7 +58,7 @@ fn ask<S: Registry, C: Clock, I: Ids>(
 ) -> Result<Answer, ExportRefused>
     requires some { 0 < length (S.state stores.old).views }
     requires idle { IsIdle session.old.client }
-    ensures said { IfOk result (IsAnsweredAsWanted S.state catalog.now statement.now
+    ensures answered { IfOk result (IsAnsweredAsWanted S.state catalog.now statement.now
         (turn C.answered I.answered stores.old stores.new clock.old clock.new ids.old ids.new session.old session.new)) }
     ensures refused { IfErr result (IsNotAnswered S.state catalog.now statement.now
         (turn C.answered I.answered stores.old stores.new clock.old clock.new ids.old ids.new session.old session.new)) }

@@ -27,7 +27,7 @@ pub fn say<S: Registry, C: Clock, I: Ids>(
 ) -> Result<Answer, NoMemory>
     requires some { 0 < length (S.state stores.old).views }
     requires idle { IsIdle session.old.client }
-    ensures said { IfOk result (IsAnsweredIn S.state catalog.now statement.now
+    ensures answered { IfOk result (IsAnsweredIn S.state catalog.now statement.now
         (turn C.answered I.answered stores.old stores.new clock.old clock.new ids.old ids.new session.old session.new)) }
     ensures goes { GoOn (S.state stores.old) (S.state stores.new) }
 {

@@ -287,10 +287,10 @@ impl World {
         Ok(())
     }
 
-    /// Does one act, which gives exactly one event: a step of a client, whose call is made on the store of its table and may be lost
-    /// discarded or delayed; the landing of a request in flight; a stop; a move of the clock. On stores that are fit for the run, and that held nothing of the script's tables when it
-    /// began, what is there at each moment is explained by the events, and what each recorded transaction read is current at its
-    /// point. After `NoMemory` the world isn't used again.
+    /// Does one act, which gives exactly one event: a step of a client, whose call is made on the store of its table, and whose reply may be
+    /// lost, or which is discarded or delayed; a landing; a stop; or a setting of the clock. On stores that are fit for the run, and that held
+    /// nothing of the script's tables when it began, what is there, and in flight, at each moment is explained by the events, and what each
+    /// recorded transaction read is current at its point. After `NoMemory` the world isn't used again.
     pub fn step<R: Registry>(&mut self, stores: &mut R, act: Act) -> Result<(), NoMemory>
         requires some { 0 < length (R.state stores.old).views }
         requires world { IsWorld self.old }

@@ -24,7 +24,7 @@ returns-in_err-rows-clause-refused g c =
     let q = point g.C.Clock.answered g.I.Ids.answered c.ask.new.stores c.ask.new.clock c.ask.new.ids c.ask.new.session in
     let r = point g.C.Clock.answered g.I.Ids.answered c.ask-2.new.stores c.ask-2.new.clock c.ask-2.new.ids c.ask-2.new.session in
     passed (HaveNotRead g.S.Registry.state c.args.catalog.now c.args.table.now p r) c.from_residual-in_err-rows.result c.in_err-rows.field-0.0 c.from_residual-in_err-rows.ensures.1
-    (cut_second g.S.Registry.state c.args.catalog.now c.args.table.now c.in_ok-select.select c.in_ok-select.ensures p q c.in_ok-ask.field-0 c.in_ok-ask.ensures.said c.ask.ensures.goes r c.in_err-rows.field-0.0 c.in_err-rows.ensures.refused c.ask-2.ensures.goes)
+    (cut_second g.S.Registry.state c.args.catalog.now c.args.table.now c.in_ok-select.select c.in_ok-select.ensures p q c.in_ok-ask.field-0 c.in_ok-ask.ensures.answered c.ask.ensures.goes r c.in_err-rows.field-0.0 c.in_err-rows.ensures.refused c.ask-2.ensures.goes)
 
 pub returns-in_err-rows-clause-goes : goal.returns-in_err-rows-clause-goes
 returns-in_err-rows-clause-goes g c = goes_more _ _ _ c.ask.ensures.goes c.ask-2.ensures.goes
@@ -36,7 +36,7 @@ returns-in_err-ask-2-clause-refused g c =
     let r = point g.C.Clock.answered g.I.Ids.answered c.ask-2.new.stores c.ask-2.new.clock c.ask-2.new.ids c.ask-2.new.session in
     let x = point g.C.Clock.answered g.I.Ids.answered c.ask-3.new.stores c.ask-3.new.clock c.ask-3.new.ids c.ask-3.new.session in
     passed (HaveNotRead g.S.Registry.state c.args.catalog.now c.args.table.now p x) c.from_residual-in_err-ask-2.result c.in_err-ask-2.field-0.0 c.from_residual-in_err-ask-2.ensures.1
-    (cut_third g.S.Registry.state c.args.catalog.now c.args.table.now c.in_ok-select.select c.in_ok-select.ensures p q c.in_ok-ask.field-0 c.in_ok-ask.ensures.said c.ask.ensures.goes r c.in_ok-rows.rows c.in_ok-rows.ensures.said c.ask-2.ensures.goes x c.in_err-ask-2.field-0.0 c.in_err-ask-2.ensures.refused c.ask-3.ensures.goes)
+    (cut_third g.S.Registry.state c.args.catalog.now c.args.table.now c.in_ok-select.select c.in_ok-select.ensures p q c.in_ok-ask.field-0 c.in_ok-ask.ensures.answered c.ask.ensures.goes r c.in_ok-rows.rows c.in_ok-rows.ensures.answered c.ask-2.ensures.goes x c.in_err-ask-2.field-0.0 c.in_err-ask-2.ensures.refused c.ask-3.ensures.goes)
 
 pub returns-in_err-ask-2-clause-goes : goal.returns-in_err-ask-2-clause-goes
 returns-in_err-ask-2-clause-goes g c = goes_more _ _ _ (goes_more _ _ _ c.ask.ensures.goes c.ask-2.ensures.goes) c.ask-3.ensures.goes
@@ -47,7 +47,7 @@ returns-clause-read g c =
     let q = point g.C.Clock.answered g.I.Ids.answered c.ask.new.stores c.ask.new.clock c.ask.new.ids c.ask.new.session in
     let r = point g.C.Clock.answered g.I.Ids.answered c.ask-2.new.stores c.ask-2.new.clock c.ask-2.new.ids c.ask-2.new.session in
     let x = point g.C.Clock.answered g.I.Ids.answered c.ask-3.new.stores c.ask-3.new.clock c.ask-3.new.ids c.ask-3.new.session in
-    read_all g.S.Registry.state c.args.catalog.now c.args.table.now c.in_ok-select.select c.in_ok-select.ensures p q c.in_ok-ask.field-0 c.in_ok-ask.ensures.said c.ask.ensures.goes r c.in_ok-rows.rows c.in_ok-rows.ensures.said c.ask-2.ensures.goes x c.in_ok-ask-2.field-0 c.in_ok-ask-2.ensures.said c.ask-3.ensures.goes
+    read_all g.S.Registry.state c.args.catalog.now c.args.table.now c.in_ok-select.select c.in_ok-select.ensures p q c.in_ok-ask.field-0 c.in_ok-ask.ensures.answered c.ask.ensures.goes r c.in_ok-rows.rows c.in_ok-rows.ensures.answered c.ask-2.ensures.goes x c.in_ok-ask-2.field-0 c.in_ok-ask-2.ensures.answered c.ask-3.ensures.goes
 
 pub returns-clause-goes : goal.returns-clause-goes
 returns-clause-goes g c = goes_more _ _ _ (goes_more _ _ _ c.ask.ensures.goes c.ask-2.ensures.goes) c.ask-3.ensures.goes

@@ -27,7 +27,7 @@ returns-then-not-is_loaded-clause-accepted g c =
     row_stops g.S.Registry.state c.args.catalog.now c.args.load.now rows (take i rows) (drop (i + 1) rows) row (point g.C.Clock.answered g.I.Ids.answered c.args.stores.now c.args.clock.now c.args.ids.now c.args.session.now)
     (point g.C.Clock.answered g.I.Ids.answered c.loop-row.stores c.loop-row.clock c.loop-row.ids c.loop-row.session) (point g.C.Clock.answered g.I.Ids.answered c.take_row.new.stores c.take_row.new.clock c.take_row.new.ids c.take_row.new.session)
     c.loop-row.written c.in_ok-answer.answer c.loop-row.invariant.so
-    (subst (λ x. IsExecuted g.S.Registry.state c.args.catalog.now (row_statement c.args.load.now x) (point g.C.Clock.answered g.I.Ids.answered c.loop-row.stores c.loop-row.clock c.loop-row.ids c.loop-row.session) c.in_ok-answer.answer (point g.C.Clock.answered g.I.Ids.answered c.take_row.new.stores c.take_row.new.clock c.take_row.new.ids c.take_row.new.session)) c.as_slice.ensures c.in_ok-answer.ensures.said)
+    (subst (λ x. IsExecuted g.S.Registry.state c.args.catalog.now (row_statement c.args.load.now x) (point g.C.Clock.answered g.I.Ids.answered c.loop-row.stores c.loop-row.clock c.loop-row.ids c.loop-row.session) c.in_ok-answer.answer (point g.C.Clock.answered g.I.Ids.answered c.take_row.new.stores c.take_row.new.clock c.take_row.new.ids c.take_row.new.session)) c.as_slice.ensures c.in_ok-answer.ensures.answered)
     c.take_row.ensures.goes (sym c.is_loaded.ensures ∙ c.if-not-is_loaded.true) (sym (take-append-drop i rows) ∙ ap (λ xs. take i rows ++ xs) (drop_next rows i row c.loop-row-test.true c.row-item.is))
 
 pub returns-then-not-is_loaded-clause-goes : goal.returns-then-not-is_loaded-clause-goes
@@ -42,7 +42,7 @@ loop-row-preserved g c =
     let p = point g.C.Clock.answered g.I.Ids.answered c.args.stores.now c.args.clock.now c.args.ids.now c.args.session.now in
     let q = point g.C.Clock.answered g.I.Ids.answered c.loop-row.stores c.loop-row.clock c.loop-row.ids c.loop-row.session in
     let r = point g.C.Clock.answered g.I.Ids.answered c.take_row.new.stores c.take_row.new.clock c.take_row.new.ids c.take_row.new.session in
-    let one = subst (λ x. IsExecuted g.S.Registry.state c.args.catalog.now (row_statement c.args.load.now x) q a r) c.as_slice.ensures c.in_ok-answer.ensures.said in
+    let one = subst (λ x. IsExecuted g.S.Registry.state c.args.catalog.now (row_statement c.args.load.now x) q a r) c.as_slice.ensures c.in_ok-answer.ensures.answered in
     let more : take (i + 1) rows ≡ take i rows ++ row ∷ [] = take_more rows i row c.loop-row-test.true ∙ ap (λ x. take i rows ++ x ∷ []) (sym c.row-item.is) in
     let count : c.if-is_written.written ≡ c.loop-row.written + cond (is_written a) 1 0 = elim c.if-is_written.branch [
       | then-is_written w ↦ w.written-is ∙ ap (λ b. c.loop-row.written + cond b 1 0) (sym (sym c.is_written.ensures ∙ w.if-is_written.true))
