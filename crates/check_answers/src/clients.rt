@@ -1,5 +1,5 @@
 //! The clients of a script, and what each event does to them.
-ghost use Rattle.std.specs.Prelude.{◌≡◌, ◌<◌, ◌-◌, ◌^◌, [], pos, suc, true, false, length, Some, IfOk, IfSome, OnOk, slice_get};
+ghost use Rattle.std.specs.Prelude.{◌≡◌, ◌↔◌, ◌<◌, ◌-◌, ◌^◌, [], pos, suc, true, false, length, Some, IfOk, IfSome, IsTrue, OnOk, slice_get};
 ghost use Rattle.sdb_record.specs.Meta.{is_moment as is_moment_lem};
 ghost use Rattle.sdb_model.specs.Follows.{IsHowOfStep, texts_of};
 ghost use Rattle.sdb_client.specs.Client.{IsIdle, client_pending};
@@ -71,7 +71,7 @@ fn is_pending(client: &Client, request: &Request) -> bool
 
 // A delayed call is answered a fault.
 fn has_reply(how: How, reply: &Reply) -> bool
-    ensures { result ≡ true → how ≡ How.Delayed → reply.now ≡ Reply.Fault }
+    ensures { IsTrue result ↔ (how ≡ How.Delayed → reply.now ≡ Reply.Fault) }
 {
     match how {
         How::Delayed => matches!(reply, Reply::Fault),
@@ -81,7 +81,7 @@ fn has_reply(how: How, reply: &Reply) -> bool
 
 // A landing is seen, and no fault, or the store failed.
 fn may_land(how: How, reply: &Reply) -> bool
-    ensures { result ≡ true → IsHowOfStep how reply.now }
+    ensures { IsTrue result ↔ IsHowOfStep how reply.now }
 {
     match how {
         How::Seen => !matches!(reply, Reply::Fault),
@@ -92,7 +92,7 @@ fn may_land(how: How, reply: &Reply) -> bool
 
 // The request at a place is in flight.
 fn is_in_flight(flights: &[Option<Request>], at: usize, request: &Request) -> bool
-    ensures { result ≡ true → slice_get flights.now at ≡ Some (Some request.now) }
+    ensures { IsTrue result ↔ (slice_get flights.now at ≡ Some (Some request.now)) }
 {
     match flights.get(at) {
         Some(Some(flight)) => same(flight, request),
