@@ -1,11 +1,11 @@
 #!/usr/bin/env python3
-"""Plays generated scripts with the built program, and has the program `judge` decide what is promised of their reports.
+"""Runs generated scripts with the built program, and has the program `judge` decide what is promised of their reports.
 
     bench/generated.py FIRST COUNT [PROGRAM [JUDGE]]
 
 A seed gives a script: one to six clients, statements over two to four tables on all stores, both ends of every kind, lost and dropped
-calls, stops, clocks, VACUUM; and a seed past 10,000 delayed calls and requests that land late. The program plays it, and the judge is given the script and the report. The first seed that fails is printed,
-with its script in as few moves and statements as still fail.
+calls, stops, clocks, VACUUM; and of a seed past 10,000 delayed calls and requests that land late. The program runs it, and the judge
+is given the script and the report. The first seed that fails is printed, with its script in as few moves and statements as still fail.
 
 Build both first: cd crates/scalardb && rt run -- replay < ../../examples/first.script; the same in crates/judge.
 """
