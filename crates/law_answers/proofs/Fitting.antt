@@ -232,3 +232,16 @@ module _ (catalog : List Table) (table : Table) (st : Statement) (s : Seen) (is 
             → sieved_at (fits_catalog catalog) q (get (with_changes (tables_seen s) changes) q) ≡ get (with_changes part changes) q
         by q (inl h) = ap (sieved_at (fits_catalog catalog) q) (h (tables_seen s) part) ∙ sieved_same catalog q (get (with_changes part changes) q) (λ cs found. fits_there catalog (with_changes part changes) q cs left_fits found)
         by q (inr h) = ap (sieved_at (fits_catalog catalog) q) (h (tables_seen s)) ∙ sym (get_fitting catalog (tables_seen s) q) ∙ sym (h part)
+
+-- A statement is accepted, and the rows at its access fit.
+pub record FittingStatement (catalog : List Table) (table : Table) (st : Statement) (s : Seen) : Type 0 where
+  pub is : is_catalog catalog ≡ true
+  pub named : named_table catalog st ≡ Some table
+  pub fits : first_unfit table (overlay (access_of table st) s) ≡ None
+  pub accepted : refusal_of catalog st ≡ None
+  pub literals : has_all_literals st ≡ true
+
+-- A row that it leaves fits, or was there.
+pub left_fits_or_was : (catalog : List Table) (table : Table) (st : Statement) (s : Seen) → FittingStatement catalog table st s → (q : Key) (cs : List Pair)
+    → get (with_changes (tables_seen s) (changes_on table st (overlay (access_of table st) s))) q ≡ Some cs → (row_is_well_typed catalog q cs ≡ true) ⊎ (get (tables_seen s) q ≡ Some cs)
+left_fits_or_was catalog table st s h q cs found = left_at_key catalog table st s h.is h.named h.fits h.accepted h.literals q cs found

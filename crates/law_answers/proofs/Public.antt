@@ -6,7 +6,7 @@ pub use Rattle.law_answers.proofs.Counts.{calls_more, opens_first, opens_more, o
 pub use Rattle.law_answers.proofs.CountsNotes.{last_or, open_only}
 pub use Rattle.law_answers.proofs.Ends.{commit_is}
 pub use Rattle.law_answers.proofs.Faults.{answered_seen, seen_no_faults}
-pub use Rattle.law_answers.proofs.Fitting.{RowFits, access_fits, all_fitting, exec_fitting, get_fitting, left_at_key, left_fitting, left_outside, rows_fitting}
+pub use Rattle.law_answers.proofs.Fitting.{RowFits, access_fits, all_fitting, exec_fitting, get_fitting, left_fits_or_was, left_fitting, left_outside, rows_fitting}
 pub use Rattle.law_answers.proofs.Given.{IsMiddle, asked_gives, given_middle, unfit_data}
 pub use Rattle.law_answers.proofs.Knowing.{calls_wait}
 pub use Rattle.law_answers.proofs.Later.{commit_stays}

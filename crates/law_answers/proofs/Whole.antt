@@ -181,8 +181,8 @@ idles_all catalog events now states c ex = record {
   each = stays_all catalog events (event.Idle c) states (λ d. executed_more d events (event.Idle c)) (λ d. refl) ex.each;
 }
 
-pub lands_all : (catalog : List Table) (events : List Event) (now : ℤ) (states : ℕ → ClientState) (number : ℕ) (store : Name) (q : Request) (how : How) (r : Reply) → CauseInvariant catalog events now states → CauseInvariant catalog (events ++ event.Land number store q how r ∷ []) now states
-lands_all catalog events now states number store q how r ex = record {
+pub lands_all : {catalog : List Table} {events : List Event} {now : ℤ} {states : ℕ → ClientState} (number : ℕ) (store : Name) (q : Request) (how : How) (r : Reply) → CauseInvariant catalog events now states → CauseInvariant catalog (events ++ event.Land number store q how r ∷ []) now states
+lands_all {catalog} {events} {now} {states} number store q how r ex = record {
   clock = clock_more events landed ∙ ex.clock;
   stopped = λ x. stopped_same x events landed refl ∙ ex.stopped x;
   each = stays_all catalog events landed states (λ c. executed_more c events landed) (λ c. refl) ex.each;

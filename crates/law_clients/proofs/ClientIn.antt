@@ -113,23 +113,23 @@ module _ (catalog : List Table) where
         let is : IsVacuumIn catalog v = subst (λ (o : Option VacuumAt). IfSome o (IsVacuumIn catalog)) at.runs h.vacuum in
         subst (IsVacuumIn catalog) (sym gave.0) (swept_in catalog v.spans v.removed v.stage q now r is.0 is.1 (subst (λ (o : Option VacuumAt). pending_by o c.txn ≡ Some q) at.runs at.pending) can)
 
-    pub replies_in : (result : Option Answer) (d : Client) → Step c (Receives q r now) result d → Of d
-    replies_in result d (ReadGoesOn t p a x at more) =
+    pub replies_in : {result : Option Answer} {d : Client} → Step c (Receives q r now) result d → Of d
+    replies_in (ReadGoesOn t p a x at more) =
         let k = read_at t p a x at in
         record { txn = subst (λ (o : Option Planned). IsDoingIn catalog t.seen (doing.Read a (record x { stage = read_step x.stage now r })) o) (sym at.plan) (k.0, record { table = k.1.table; access = k.1.access; asked = k.1.asked; stage = stage_in t p a x at }); vacuum = h.vacuum }
-    replies_in result d (ReadEnds t p a x images at ends is_asked as_read) =
+    replies_in (ReadEnds t p a x images at ends is_asked as_read) =
         let k = read_at t p a x at in
         let v : TxnAt = with_rows_read t a images in
         let idle_then : IsIdleIn v = noting_in t a images (access_in catalog p a k.1.table k.1.access) (images_in (read_step x.stage now r) images ends (stage_in t p a x at)) k.0 in
         held_in c (given_left v (gives p a v)) h.vacuum (left_in v (gives p a v) idle_then (gives_in catalog p a v.seen k.1.table k.1.access))
-    replies_in result d (ReadConflicts t p a x images key found at ends changed) = rests_in c h.vacuum
-    replies_in result d (ReadFails t p a x at failed) = held_in c (idle t) h.vacuum (refl, (read_at t p a x at).0)
-    replies_in result d (CommitGoesOn {u = u} t k next at goes) =
+    replies_in (ReadConflicts t p a x images key found at ends changed) = rests_in c h.vacuum
+    replies_in (ReadFails t p a x at failed) = held_in c (idle t) h.vacuum (refl, (read_at t p a x at).0)
+    replies_in (CommitGoesOn {u = u} t k next at goes) =
         let work : IsWorkIn catalog k.work = subst (λ (d : Doing). IsDoingIn catalog t.seen d c.plan) at.doing (open_in c t at.opened h) in
         record { txn = subst (λ (x : Doing). IsDoingIn catalog u.seen x c.plan) (sym goes.doing) work; vacuum = h.vacuum }
-    replies_in result d (CommitEnds t k a at ended) = rests_in c h.vacuum
-    replies_in result d (VacuumGoesOn {w = w} v at gave) = record { txn = h.txn; vacuum = swept_at v w at gave }
-    replies_in result d (VacuumEnds v w s at gave answers) = record { txn = h.txn; vacuum = tt }
+    replies_in (CommitEnds t k a at ended) = rests_in c h.vacuum
+    replies_in (VacuumGoesOn {w = w} v at gave) = record { txn = h.txn; vacuum = swept_at v w at gave }
+    replies_in (VacuumEnds v w s at gave answers) = record { txn = h.txn; vacuum = tt }
 
   ---- the call that is pending
 

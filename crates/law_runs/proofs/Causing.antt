@@ -35,7 +35,7 @@ caused_idles w c h = idles_all w.script.catalog w.events w.clock (states_of w.cl
 
 -- a request lands
 pub caused_lands : (w : WorldAt) (number : ℕ) (store : Name) (q : Request) (how : How) (r : Reply) → HaveCauses w → HaveCauses (with_event w (event.Land number store q how r))
-caused_lands w number store q how r h = lands_all w.script.catalog w.events w.clock (states_of w.client_slots) number store q how r h
+caused_lands w number store q how r h = lands_all number store q how r h
 
 pub caused_ticks : (w : WorldAt) (moment : ℤ) → HaveCauses w → HaveCauses (with_event (at_moment w moment) (event.Clock moment))
 caused_ticks w moment h = clock_all w.script.catalog w.events w.clock moment (states_of w.client_slots) h

@@ -30,7 +30,7 @@ use Rattle.sdb_txn.specs.Txn.{TxnAt}
 use Rattle.sdb_client.specs.Client.{given_answer, given_left, gives, left_by_answer, too_many, written}
 use Rattle.law_clients.specs.Fitting.{row_is_well_typed}
 use Rattle.law_clients.proofs.Public.{access_table, done_is, keys_changed, keys_with}
-use Rattle.law_answers.proofs.Public.{access_fits, all_fitting, asked_gives, effective_by, exec_fitting, get_fitting, given_middle, IsDataTable, left_at_key, left_fitting, left_outside, middle_ends, RowFits, rows_fitting, unfit_data}
+use Rattle.law_answers.proofs.Public.{access_fits, all_fitting, asked_gives, effective_by, exec_fitting, get_fitting, given_middle, IsDataTable, left_fits_or_was, left_fitting, left_outside, middle_ends, RowFits, rows_fitting, unfit_data}
 use Rattle.law_clients.specs.Keys.{keys_written, with_keys}
 use Rattle.law_answers.specs.Unfit.{fits_catalog, fitting_part}
 use Rattle.law_runs.specs.Found.{IsRunOnFound, View, exec_on, found_by, is_answered, is_misfit_row, meets_misfit, takes_part, with_found}
@@ -166,7 +166,7 @@ module _ (catalog : List Table) (events : List Event) (c : ℕ) (ss : List Execu
     fits_before q inside = fits_row catalog q (get d q) (access_fits catalog p.table p.statement v.seen on.is on.named fits q inside)
 
     fits_after : (q : Key) → in_access own q ≡ true → is_misfit_row catalog q (get (with_changes d ks) q) ≡ false
-    fits_after q inside = fits_row catalog q (get (with_changes d ks) q) (λ cs found. by cs (left_at_key catalog p.table p.statement v.seen on.is on.named fits on.accepted on.literals q cs found))
+    fits_after q inside = fits_row catalog q (get (with_changes d ks) q) (λ cs found. by cs (left_fits_or_was catalog p.table p.statement v.seen (record { is = on.is; named = on.named; fits = fits; accepted = on.accepted; literals = on.literals }) q cs found))
       where
         by : (cs : List Pair) → (row_is_well_typed catalog q cs ≡ true) ⊎ (get d q ≡ Some cs) → row_is_well_typed catalog q cs ≡ true
         by cs (inl e) = e

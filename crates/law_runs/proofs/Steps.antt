@@ -114,7 +114,7 @@ step_world w (event.Call c store q how r a) u t h =
     let s : ClientSlot = t.client_slot in
     let client_slot : IsClientState w.script w.events i s = h.each i s t.at in
     let after = replies_fitted w.script.catalog s.client q r w.clock client_slot.fitted a t.client t.takes in
-    let about = replies_in w.script.catalog s.client q r w.clock t.can client_slot.about a t.client t.takes in
+    let about = replies_in w.script.catalog s.client q r w.clock t.can client_slot.about t.takes in
     at_place IsWorld w (λ n. event.Call n store q how r a) c i (client_after s 0 t.client) (flights_after w.flights how q) u t.number t.left
     (world_moves w i s (client_after s 0 t.client) (event.Call (suc i) store q how r a) (flights_after w.flights how q) t.at (λ j n. call_apart (suc i) (suc j) store q how r a (λ z. n (suc_is i j z))) (seat_calls w.script w.events i s client_slot a t.client after about store q how r) (asks_in w.script.catalog s.client q client_slot.about t.pending) (call_late w.events w.flights (suc i) store q how r a t.late h.late) h)
 step_world w (event.Stop c) u t h =

@@ -40,7 +40,7 @@ pub working : (c d : ClientAt) → IsWorking c → ((w : IsWorking c) → IsAtWo
 working c d w later = record { catalog = w.catalog; statement = w.statement; opened = w.opened; stays = w.stays; works = later w }
 
 pub about_still : (now : ℤ) (old new : Attached) (c : ClientAt) (result : Option Answer) (d : ClientAt) → HasCalled now old c result new d → (catalog : List Table) → IsOfTables catalog c → IsOfTables catalog d
-about_still now old new c result d h catalog about = replies_in catalog c h.request h.reply now h.can about result d (step_of_reply c h.request h.reply now h.pending result d h.took)
+about_still now old new c result d h catalog about = replies_in catalog c h.request h.reply now h.can about (step_of_reply c h.request h.reply now h.pending result d h.took)
 
 -- a call that leads to an answer of a fault, or on after a fault
 called_of_fault : (now : ℤ) (old new : Attached) (c : ClientAt) (result : Option Answer) (d : ClientAt) → HasCalled now old c result new d → IsWorking c → IsOfFault result d → IsAfterFault c ⊎ HaveRisen old.views new.views

@@ -11,4 +11,4 @@ pub returns-clause-moves : goal.returns-clause-moves
 returns-clause-moves x = λ k moment. clock_all k.catalog k.events k.now moment k.states k.tied
 
 pub returns-clause-lands : goal.returns-clause-lands
-returns-clause-lands x = λ k number store q how r. lands_all k.catalog k.events k.now k.states number store q how r k.tied
+returns-clause-lands x = λ k number store q how r. lands_all number store q how r k.tied

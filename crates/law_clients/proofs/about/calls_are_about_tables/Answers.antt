@@ -6,6 +6,6 @@ pub returns : goal.returns
 returns x = record {
   starts = λ catalog number. record { txn = tt; vacuum = tt };
   takes = λ q text c d result idle of h. takes_in q text c d result idle of (step_of_text q text c result d h);
-  replies = λ catalog r can of. replies_in catalog r.before r.request r.reply r.now can of r.result r.after (step_of_reply r.before r.request r.reply r.now r.pending r.result r.after r.answered);
+  replies = λ catalog r can of. replies_in catalog r.before r.request r.reply r.now can of (step_of_reply r.before r.request r.reply r.now r.pending r.result r.after r.answered);
   asked = asks_in;
 }
