@@ -3,8 +3,8 @@ ghost use Rattle.std.specs.Prelude.{◌≡◌, ◌++◌, ◌∷◌, [], if◌the
 ghost use Rattle.sdb_model.specs.Transactions.{begins as begins_lem, statements_by as statements_by_lem};
 ghost use Rattle.sdb_contents.specs.Commits.{executed_of, all_executed, commits_of, commit_at as commit_at_lem, take_where};
 
-use crate::executed::{Executed, begins, ends, is_word, statements_by};
-use sdb_model::{Event, Keyword};
+use crate::executed::{Executed, begins, ends, is_commit, statements_by};
+use sdb_model::Event;
 use sdb_types::{NoMemory, Seq};
 use std::alloc::Global;
 
@@ -15,7 +15,7 @@ fn accepted(alloc: Global, executed: &Executed, later: u64) -> Result<u64, NoMem
     if !ends(alloc, executed)? {
         return Ok(later);
     }
-    if is_word(alloc, executed, Keyword::Commit)? {
+    if is_commit(executed) {
         Ok(executed.accepted)
     } else {
         Ok(0)

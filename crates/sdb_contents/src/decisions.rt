@@ -50,8 +50,8 @@ impl Decisions {
 
 // The transaction that a row is about, and the decision on it.
 fn read(alloc: Global, row: &Record) -> Result<(TxId, Decided), ClosingRefused>
-    ensures id { IfOk result (λ said. id_of_key row.now.key ≡ Some said.0) }
-    ensures decided { IfOk result (λ said. decision_in row.now ≡ Ok said.1) }
+    ensures id { IfOk result (λ d. id_of_key row.now.key ≡ Some d.0) }
+    ensures decided { IfOk result (λ d. decision_in row.now ≡ Ok d.1) }
     ensures err { IfErr result (Refuses (λ key. (key ≡ row.now.key) × (is_decided row.now ≡ false)) ⊥) }
 {
     match id_of_row(&row.key) {

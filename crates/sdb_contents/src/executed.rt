@@ -1,11 +1,11 @@
 //! A client's statements.
 ghost use Rattle.std.specs.Prelude.{◌≡◌, IfOk, OnOk, Some};
-ghost use Rattle.sdb_model.specs.Sql.{reads_word as reads_word_lem};
+ghost use Rattle.sdb_model.specs.Sql.{reads_commit as reads_commit_lem, reads_word as reads_word_lem};
 ghost use Rattle.sdb_model.specs.Transactions.{statements_by as statements_by_lem, with_answer, statements_after, begins as begins_lem, ends as ends_lem, is_done as is_done_lem, is_conflict as is_conflict_lem};
 ghost use Rattle.sdb_contents.specs.Commits.{executed_of, all_executed};
 
 use sdb_model::{Answer, Event, Keyword};
-use sdb_sqltext::reads_word;
+use sdb_sqltext::{reads_commit, reads_word};
 use sdb_types::{Duplicate, NoMemory, Seq, Txt};
 use std::alloc::Global;
 
@@ -123,19 +123,32 @@ pub fn is_word(alloc: Global, executed: &Executed, word: Keyword) -> Result<bool
     reads_word(alloc, executed.text.as_str().as_bytes(), word)
 }
 
+/// Whether a statement is read as COMMIT. Takes no memory.
+pub fn is_commit(executed: &Executed) -> bool
+    ensures { result ≡ reads_commit_lem executed.now.text }
+{
+    reads_commit(executed.text.as_str().as_bytes())
+}
+
 /// Whether a statement begins a transaction.
 pub fn begins(alloc: Global, executed: &Executed) -> Result<bool, NoMemory>
     ensures { IfOk result (λ begins. begins ≡ begins_lem (executed_of executed.now)) }
 {
-    Ok(is_word(alloc, executed, Keyword::Begin)? && is_done(&executed.answer))
+    if !is_done(&executed.answer) {
+        return Ok(false);
+    }
+    is_word(alloc, executed, Keyword::Begin)
 }
 
 /// Whether a statement ends a transaction that is open.
 pub fn ends(alloc: Global, executed: &Executed) -> Result<bool, NoMemory>
     ensures { IfOk result (λ ends. ends ≡ ends_lem (executed_of executed.now)) }
 {
-    if is_word(alloc, executed, Keyword::Commit)? || is_conflict(&executed.answer) {
+    if is_commit(executed) || is_conflict(&executed.answer) {
         return Ok(true);
     }
-    Ok(is_word(alloc, executed, Keyword::Rollback)? && is_done(&executed.answer))
+    if !is_done(&executed.answer) {
+        return Ok(false);
+    }
+    is_word(alloc, executed, Keyword::Rollback)
 }

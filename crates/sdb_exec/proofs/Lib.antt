@@ -10,4 +10,5 @@ mod Local
 mod Whole
 mod InOrder
 mod Fits
+mod Misfits
 pub mod Public

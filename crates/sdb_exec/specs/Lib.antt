@@ -1,3 +1,4 @@
 pub mod Types
 pub mod Plans
+pub mod Misfits
 pub mod Asked

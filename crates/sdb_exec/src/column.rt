@@ -1,7 +1,7 @@
 //! Columns of a table by their names. Where these rise, as those of a catalog's tables do, half of the columns that are left is passed over at
 //! each step.
 ghost use Rattle.std.specs.Prelude.{◌≡◌, true};
-ghost use Rattle.sdb_schema.specs.Table.{rises, has_column as has_column_lem};
+ghost use Rattle.sdb_schema.specs.Table.{rises, has_column as has_column_lem, kind_in};
 ghost use Rattle.sdb_model.specs.Rows.{kind_of_column};
 
 use sdb_schema::{Kind, Table, all_rise, find_column};
@@ -20,6 +20,17 @@ pub fn has_column(table: &Table, name: &Name) -> bool
     ensures { result ≡ has_column_lem table.now.columns name.now }
 {
     find_column(table.columns.as_slice(), true, name).is_some()
+}
+
+/// The kind of a column, where the table has one of that name.
+pub fn find_kind(table: &Table, name: &Name) -> Option<Kind>
+    requires { rises table.now.columns ≡ true }
+    ensures { result ≡ kind_in table.now.columns name.now }
+{
+    match find_column(table.columns.as_slice(), true, name) {
+        Some(column) => Some(column.kind),
+        None => None,
+    }
 }
 
 /// The kind of a column, and Text where the table has none of that name.

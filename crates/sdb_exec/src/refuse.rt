@@ -3,11 +3,13 @@ ghost use Rattle.std.specs.Prelude.{◌≡◌, ◌+◌, not, ◌&&◌, true, fal
 ghost use Rattle.std.specs.Option.{option_map, option_map_or};
 ghost use Rattle.std.specs.List.{list_any};
 ghost use Rattle.sdb_types.specs.Columns.{is_null as is_null_lem};
+ghost use Rattle.sdb_types.specs.declared.value.Value.TheVariants as value;
 ghost use Rattle.sdb_schema.specs.Table.{is_table, rises, key_names as key_names_lem};
 ghost use Rattle.sdb_model.specs.Rows.{same_name};
 ghost use Rattle.sdb_model.specs.Refused.{suits as suits_lem, is_within as is_within_lem, is_unknown as is_unknown_lem, names_key as names_key_lem, is_of_other_kind as is_of_other_kind_lem, is_null_in_key as is_null_in_key_lem, is_out_of_range as is_out_of_range_lem, is_too_long as is_too_long_lem, is_named_by, or_next, repeat_place, refusal, first_place, written as written_lem, mentions as mentions_lem, key_refusal, literal_refusal, missing_refusal, refusal_on};
+ghost use Rattle.sdb_exec.specs.Misfits.{is_misfit as is_misfit_lem, has_misfit as has_misfit_lem};
 
-use crate::column::{has_column, kind_of_known};
+use crate::column::{find_kind, has_column, kind_of_known};
 use crate::is_key_name;
 use crate::mention::{mentions_of, written_in};
 use sdb_model::{Insert, Mention, Refusal, Statement};
@@ -59,10 +61,14 @@ fn is_unknown(table: &Table, mention: &Mention) -> bool
     !has_column(table, &mention.name)
 }
 
-fn find_unknown(table: &Table, mentions: &[Mention]) -> Option<usize>
-    requires { rises table.now.columns ≡ true }
+fn find_unknown(table: &Table, misfits: bool, mentions: &[Mention]) -> Option<usize>
+    requires columns { rises table.now.columns ≡ true }
+    requires misfits { misfits ≡ has_misfit_lem table.now mentions.now }
     ensures { result ≡ position (is_unknown_lem table.now) mentions.now }
 {
+    if !misfits {
+        return None;
+    }
     mentions
         .iter()
         .position(|mention| is_unknown(table, mention))
@@ -142,23 +148,52 @@ fn suits(kind: Kind, value: &Value) -> bool
     }
 }
 
-fn is_of_other_kind(table: &Table, mention: &Mention) -> bool
-    requires { rises table.now.columns ≡ true }
-    ensures { result ≡ is_of_other_kind_lem table.now mention.now }
+fn is_literal_of_other_kind(kind: Kind, literal: &Option<Value>) -> bool
+    ensures { result ≡ option_map_or (λ v. not (suits_lem kind v)) literal.now false }
 {
-    match &mention.literal {
-        Some(literal) => !suits(kind_of_known(table, &mention.name), literal),
+    match literal {
+        Some(literal) => !suits(kind, literal),
         None => false,
     }
 }
 
-fn find_other_kind(table: &Table, mentions: &[Mention]) -> Option<usize>
+fn is_of_other_kind(table: &Table, mention: &Mention) -> bool
     requires { rises table.now.columns ≡ true }
+    ensures { result ≡ is_of_other_kind_lem table.now mention.now }
+{
+    is_literal_of_other_kind(kind_of_known(table, &mention.name), &mention.literal)
+}
+
+fn find_other_kind(table: &Table, misfits: bool, mentions: &[Mention]) -> Option<usize>
+    requires columns { rises table.now.columns ≡ true }
+    requires misfits { misfits ≡ has_misfit_lem table.now mentions.now }
     ensures { result ≡ position (is_of_other_kind_lem table.now) mentions.now }
 {
+    if !misfits {
+        return None;
+    }
     mentions
         .iter()
         .position(|mention| is_of_other_kind(table, mention))
+}
+
+// Whether the table lacks the column, or has it with another kind than the literal's: both by one look for the column.
+fn is_misfit(table: &Table, mention: &Mention) -> bool
+    requires { rises table.now.columns ≡ true }
+    ensures { result ≡ is_misfit_lem table.now mention.now }
+{
+    match find_kind(table, &mention.name) {
+        Some(kind) => is_literal_of_other_kind(kind, &mention.literal),
+        None => true,
+    }
+}
+
+// Most statements have no misfit. Then the two kinds of misfits aren't looked for one after the other.
+fn has_misfit(table: &Table, mentions: &[Mention]) -> bool
+    requires { rises table.now.columns ≡ true }
+    ensures { result ≡ has_misfit_lem table.now mentions.now }
+{
+    mentions.iter().any(|mention| is_misfit(table, mention))
 }
 
 fn is_null(literal: &Option<Value>) -> bool
@@ -181,23 +216,23 @@ fn find_null(table: &Table, mentions: &[Mention]) -> Option<usize>
         .position(|mention| is_null_in_key(table, mention))
 }
 
-fn is_within(kind: Kind, value: &Value) -> bool
-    ensures { result ≡ is_within_lem kind value.now }
+fn is_whole_within(kind: Kind, n: i64) -> bool
+    ensures { result ≡ is_within_lem kind (value.BigInt n) }
 {
-    match (kind, value) {
-        (Kind::Int, Value::BigInt(n)) => *n >= -2147483648 && *n <= 2147483647,
-        (_, Value::BigInt(n)) => *n >= -LARGEST && *n <= LARGEST,
-        _ => true,
+    match kind {
+        Kind::Int => n >= -2147483648 && n <= 2147483647,
+        _ => n >= -LARGEST && n <= LARGEST,
     }
 }
 
+// Only a number of 64 bits may be out of the range of its column.
 fn is_out_of_range(table: &Table, mention: &Mention) -> bool
     requires { rises table.now.columns ≡ true }
     ensures { result ≡ is_out_of_range_lem table.now mention.now }
 {
     match &mention.literal {
-        Some(literal) => !is_within(kind_of_known(table, &mention.name), literal),
-        None => false,
+        Some(Value::BigInt(n)) => !is_whole_within(kind_of_known(table, &mention.name), *n),
+        _ => false,
     }
 }
 
@@ -252,23 +287,26 @@ fn find_unlisted(keys: &[Name], names: &[Name]) -> Option<usize>
 fn column_fault(
     alloc: Global,
     table: &Table,
+    misfits: bool,
     written: &[Mention],
     mentions: &[Mention],
 ) -> Result<Option<Fault>, NoMemory>
-    requires { rises table.now.columns ≡ true }
+    requires columns { rises table.now.columns ≡ true }
+    requires misfits { misfits ≡ has_misfit_lem table.now mentions.now }
     ensures { IfOk result (λ found. found ≡ or_next (refusal 7 (first_place (is_unknown_lem table.now) mentions.now)) (refusal 8 (repeat_place [] written.now))) }
 {
-    match of_kind(7, find_unknown(table, mentions)) {
+    match of_kind(7, find_unknown(table, misfits, mentions)) {
         Some(found) => Ok(Some(found)),
         None => Ok(of_kind(8, find_repeat(alloc, written)?)),
     }
 }
 
-fn kind_fault(table: &Table, mentions: &[Mention]) -> Option<Fault>
-    requires { rises table.now.columns ≡ true }
+fn kind_fault(table: &Table, misfits: bool, mentions: &[Mention]) -> Option<Fault>
+    requires columns { rises table.now.columns ≡ true }
+    requires misfits { misfits ≡ has_misfit_lem table.now mentions.now }
     ensures { result ≡ or_next (refusal 10 (first_place (is_of_other_kind_lem table.now) mentions.now)) (refusal 11 (first_place (is_null_in_key_lem table.now) mentions.now)) }
 {
-    match of_kind(10, find_other_kind(table, mentions)) {
+    match of_kind(10, find_other_kind(table, misfits, mentions)) {
         Some(found) => Some(found),
         None => of_kind(11, find_null(table, mentions)),
     }
@@ -284,11 +322,12 @@ fn size_fault(table: &Table, mentions: &[Mention]) -> Option<Fault>
     }
 }
 
-fn literal_fault(table: &Table, mentions: &[Mention]) -> Option<Fault>
-    requires { rises table.now.columns ≡ true }
+fn literal_fault(table: &Table, misfits: bool, mentions: &[Mention]) -> Option<Fault>
+    requires columns { rises table.now.columns ≡ true }
+    requires misfits { misfits ≡ has_misfit_lem table.now mentions.now }
     ensures { result ≡ literal_refusal table.now mentions.now }
 {
-    match kind_fault(table, mentions) {
+    match kind_fault(table, misfits, mentions) {
         Some(found) => Some(found),
         None => size_fault(table, mentions),
     }
@@ -336,13 +375,14 @@ fn first_fault(
     requires mentions { mentions.now ≡ mentions_lem statement.now }
     ensures { IfOk result (λ found. found ≡ refusal_on table.now statement.now) }
 {
-    if let Some(found) = column_fault(alloc, table, written, mentions)? {
+    let misfits = has_misfit(table, mentions);
+    if let Some(found) = column_fault(alloc, table, misfits, written, mentions)? {
         return Ok(Some(found));
     }
     if let Some(found) = key_fault(table, statement, written) {
         return Ok(Some(found));
     }
-    match literal_fault(table, mentions) {
+    match literal_fault(table, misfits, mentions) {
         Some(found) => Ok(Some(found)),
         None => Ok(missing_fault(table, keys, statement)),
     }

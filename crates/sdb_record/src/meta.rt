@@ -127,7 +127,7 @@ fn is_stray(part: Part, name: &str, forbidden: bool) -> bool
     ensures { result ≡ passes_name (is_stray_name forbidden) (name_within part name.now) }
 {
     match part.name_within(name) {
-        Some(name) => is_user_name(name) && (forbidden || name.len() > 64),
+        Some(name) => (forbidden || name.len() > 64) && is_user_name(name),
         None => false,
     }
 }

@@ -6,7 +6,7 @@ ghost use Rattle.sdb_types.specs.Identifier.{is_name};
 ghost use Rattle.sdb_record.specs.Names.{is_meta, is_before, is_user, base_name, same_name};
 ghost use Rattle.sdb_record.specs.Inside.{meta_name, name_from, name_within, columns_of};
 
-use sdb_types::{Columns, Known, Value, value_named};
+use sdb_types::{Columns, Known, Name, Value};
 
 /// A part of a record that holds metadata: its own columns, or the before image that it keeps.
 #[derive(Clone, Copy)]
@@ -141,5 +141,5 @@ pub fn meta_column(name: &str) -> Option<MetaColumn>
 pub fn value_within(columns: &Columns, part: Part, wanted: MetaColumn) -> Option<&Value>
     ensures { option_copied result ≡ column (columns_of part columns.now) (meta_name wanted) }
 {
-    value_named(columns.pairs(), wanted.text(part))
+    columns.get(&Name::known(wanted.word(part)))
 }

@@ -1,16 +1,16 @@
 -- The first items of a list that pass a test.
-use Rattle.std.proofs.Common.{◌≡◌, ◌≢◌, inl, inr, ℕ, zero, suc, ◌+◌, ◌<◌, Bool, true, false, not, cond, nat_lt, List, [], ◌∷◌, ◌++◌, length, map, take, slice_set, Option, Some, None, refl, sym, ap, ◌∙◌, arith}
-use Rattle.std.specs.Prelude.{position, slice_get}
+use Rattle.std.proofs.Common.{◌≡◌, ◌≢◌, inl, inr, ℕ, zero, suc, ◌+◌, Bool, true, false, not, cond, nat_lt, List, [], ◌∷◌, ◌++◌, length, take, slice_set, Option, Some, None, refl, sym, ap, ◌∙◌, arith}
+use Rattle.std.specs.Prelude.{is_some, position, slice_get}
 use Rattle.std.specs.List.{position_or_len}
 use Rattle.std.specs.Option.{option_map, option_map_or}
 use Rattle.std.specs.Ordering.{is_eq}
 use Rattle.std.specs.Map.{lookup, keys_of}
 use Rattle.std.proofs.lemmas.Bool.{cases_lt, lt-ltb, le-ltb}
 use Rattle.std.proofs.lemmas.Option.{slice_get-map}
-use Rattle.indexmap.specs.IndexMap.{insert_entry}
 use Rattle.sdb_types.specs.declared.key.Key.{Key}
 use Rattle.sdb_types.specs.Order.{key_cmp, same_key}
 use Rattle.sdb_types.proofs.Public.{by_option, by_test, clash, none_some, one_more, or_else, same_key_exact, same_key_is, same_key_turned, some_is}
+use Rattle.sdb_snapshot.specs.Entries.{value_at, with_value}
 use Rattle.sdb_snapshot.specs.Places.{is_key_at, HaveFirstIndexes}
 
 one_less : (n m : ℕ) → nat_lt (suc n) (suc m) ≡ nat_lt n m
@@ -111,29 +111,29 @@ module _ {K V : Type 0} (p : K → Bool) where
 
 module _ {V : Type 0} (k : Key) (v : V) where
   -- a key that is there keeps its place
-  pub put_there : (es : List (Key × V)) (i : ℕ) → position (same_key k) (keys_of es) ≡ Some i → (slice_set es i (k, v) ≡ insert_entry same_key es k v) × (keys_of (slice_set es i (k, v)) ≡ keys_of es)
+  pub put_there : (es : List (Key × V)) (i : ℕ) → position (same_key k) (keys_of es) ≡ Some i → (slice_set es i (k, v) ≡ with_value es k v) × (keys_of (slice_set es i (k, v)) ≡ keys_of es)
   put_there [] i e = absurd (none_some i e)
   put_there (x ∷ xs) i e =
       by_test (same_key k x.0)
       (λ t. let at : 0 ≡ i = some_is 0 i (sym (at_head (same_key k) x.0 (keys_of xs) t) ∙ e) in
       let own : k ≡ x.0 = same_key_exact k x.0 t in (
-        ap (λ n. slice_set (x ∷ xs) n (k, v)) (sym at) ∙ ap (λ q. (q, v) ∷ xs) own ∙ sym (ap (λ b. cond b ((x.0, v) ∷ xs) (x ∷ insert_entry same_key xs k v)) t),
+        ap (λ n. slice_set (x ∷ xs) n (k, v)) (sym at) ∙ ap (λ q. (q, v) ∷ xs) own ∙ sym (ap (λ b. cond b ((x.0, v) ∷ xs) (x ∷ with_value xs k v)) t),
         ap (λ n. keys_of (slice_set (x ∷ xs) n (k, v))) (sym at) ∙ ap (λ q. q ∷ keys_of xs) own,
       ))
       (λ f. let up = one_up (same_key k) (position (same_key k) (keys_of xs)) i (sym (past_head (same_key k) x.0 (keys_of xs) f) ∙ e) in
       let rest = put_there xs up.0 up.1 in (
-        ap (λ n. slice_set (x ∷ xs) n (k, v)) up.2 ∙ ap (λ ys. x ∷ ys) rest.0 ∙ sym (ap (λ b. cond b ((x.0, v) ∷ xs) (x ∷ insert_entry same_key xs k v)) f),
+        ap (λ n. slice_set (x ∷ xs) n (k, v)) up.2 ∙ ap (λ ys. x ∷ ys) rest.0 ∙ sym (ap (λ b. cond b ((x.0, v) ∷ xs) (x ∷ with_value xs k v)) f),
         ap (λ n. keys_of (slice_set (x ∷ xs) n (k, v))) up.2 ∙ ap (λ ys. x.0 ∷ ys) rest.1,
       ))
 
   -- a new key goes last
-  pub put_last : (es : List (Key × V)) → position (same_key k) (keys_of es) ≡ None → es ++ (k, v) ∷ [] ≡ insert_entry same_key es k v
+  pub put_last : (es : List (Key × V)) → position (same_key k) (keys_of es) ≡ None → es ++ (k, v) ∷ [] ≡ with_value es k v
   put_last [] h = refl
   put_last (x ∷ xs) h =
       by_test (same_key k x.0)
       (λ t. none_some 0 (sym h ∙ at_head (same_key k) x.0 (keys_of xs) t))
       (λ f. ap (λ ys. x ∷ ys) (put_last xs (one_down (position (same_key k) (keys_of xs)) (sym (past_head (same_key k) x.0 (keys_of xs) f) ∙ h)))
-      ∙ sym (ap (λ b. cond b ((x.0, v) ∷ xs) (x ∷ insert_entry same_key xs k v)) f))
+      ∙ sym (ap (λ b. cond b ((x.0, v) ∷ xs) (x ∷ with_value xs k v)) f))
 
 ---- the indexes of keys
 
@@ -191,3 +191,11 @@ entry_there p es i e =
     by_option (slice_get es i)
     (λ y at. (y, at))
     (λ none. clash (sym (passes_there p (keys_of es) i e) ∙ ap (λ o. option_map_or p o false) (slice_get-map (λ x. x.0) es i ∙ ap (option_map (λ x. x.0)) none)))
+
+-- a key without a value is not among the keys
+pub unread : {V : Type 0} (es : List (Key × V)) (k : Key) → is_some (value_at es k) ≡ false → position (same_key k) (keys_of es) ≡ None
+unread es k h =
+    by_option (position (same_key k) (keys_of es))
+    (λ i e. let there = entry_there (same_key k) es i e in
+    clash (sym (ap is_some (value_at_first (same_key k) es i e ∙ ap (option_map (λ x. x.1)) there.1)) ∙ h))
+    (λ e. e)

@@ -10,6 +10,6 @@ mod Differences
 mod Owned
 mod Forgotten
 mod Firsts
-mod Numbered
 mod Kept
+mod Among
 pub mod Public

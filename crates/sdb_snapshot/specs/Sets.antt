@@ -1,19 +1,13 @@
 -- How a transaction keeps what it has read and written.
-use Rattle.std.specs.Prelude.{◌≡◌, ℕ, Bool, true, false, List, [], ◌∷◌, map, Option, Some, is_some, slice_get}
-use Rattle.std.specs.FinMap.{get}
+use Rattle.std.specs.Prelude.{◌≡◌, ℕ, Bool, true, false, List, [], ◌∷◌, map, Option, Some, slice_get}
 use Rattle.std.specs.List.{position_or_len}
 use Rattle.std.specs.Map.{keys_of}
 use Rattle.std.specs.Option.{option_map_or}
 use Rattle.sdb_snapshot.specs.Types.{Key, Scan, Span, Write}
-use Rattle.sdb_types.specs.Contents.{Contents}
 use Rattle.sdb_record.specs.Among.{is_written}
 use Rattle.sdb_snapshot.specs.Reads.{ReadRecord, AreBases, is_key_read, record_read_at, base_at, has_changed}
 use Rattle.sdb_snapshot.specs.Written.{AreWrites, HaveBases, HaveKeysOnce}
 use Rattle.sdb_snapshot.specs.Seen.{is_scanned, same_span}
-
--- the keys read are in a tree
-abbrev pub InOrder : List ReadRecord → Contents → Type 0
-InOrder read_set order = (q : Key) → is_key_read read_set q ≡ true → is_some (get order q) ≡ true
 
 -- the keys of a map are those of the writes, each at its place
 abbrev pub AreIndexed : List (Key × Unit {0}) → List Write → Type 0

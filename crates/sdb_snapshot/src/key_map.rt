@@ -1,15 +1,18 @@
 //! A map whose keys keep the order of their first use.
-ghost use Rattle.std.specs.Prelude.{◌≡◌, [], ◌++◌, ◌∷◌, OnOk, OnErr, slice_get, slice_set, length, position, take, None, Some};
+ghost use Rattle.std.specs.Prelude.{◌≡◌, [], ◌++◌, ◌∷◌, IfOk, OnOk, OnErr, slice_get, slice_set, length, position, take, true, None, Some};
+ghost use Rattle.std.specs.BTreeMap.{get, IsOrdered};
 ghost use Rattle.std.specs.Option.{option_copied, option_map};
 ghost use Rattle.std.specs.Map.{keys_of};
 ghost use Rattle.std.specs.Map.Iter.{deref_pair};
-ghost use Rattle.sdb_types.specs.Order.{same_key};
+ghost use Rattle.sdb_types.specs.Order.{key_cmp, same_key};
 ghost use Rattle.sdb_snapshot.specs.Entries.{value_at, with_value};
-ghost use Rattle.sdb_snapshot.specs.Places.{is_key_at as is_key_at_lem};
+ghost use Rattle.sdb_snapshot.specs.Places.{is_key_at as is_key_at_lem, keys_among as keys_among_lem, AreKeysIn};
 
-use indexmap::IndexMap;
-use sdb_types::{Duplicate, Key, NoMemory};
+use crate::prefix::cut;
+use sdb_ordered::least_key;
+use sdb_types::{Columns, Duplicate, Key, NoMemory, Record, Records, Seq, Span};
 use std::alloc::Global;
+use std::cmp::Ordering;
 use std::collections::BTreeMap;
 use std::marker::Model;
 
@@ -17,16 +20,18 @@ use std::marker::Model;
 ///
 /// `get`, `place` and `put` compare the key with as many others as the logarithm of the number of keys, whatever keys are chosen.
 ///
-/// The entries are kept by the numbers of their first uses, and a tree has the number of each key. It may have numbers of keys
-/// that were cut off, or that memory ran out for: a number counts where the entry there is of its key.
+/// The entries are kept in the order of their first uses, and a tree has the place of each key. It may have places of keys
+/// that were cut off, or that memory ran out for: a place counts where the entry there is of its key.
 pub struct KeyMap<V> {
-    entries: IndexMap<usize, (Key, V)>,
+    alloc: Global,
+    entries: Seq<(Key, V)>,
     places: BTreeMap<Key, usize>,
 }
 
 impl<V: Drop> Drop for KeyMap<V> {
     fn drop(self) {
         let KeyMap {
+            alloc: _,
             entries: _,
             places: _,
         } = self;
@@ -36,16 +41,56 @@ impl<V: Drop> Drop for KeyMap<V> {
 impl<V> Model for KeyMap<V> {
     ghost use Rattle.std.specs.Prelude.{List};
     ghost use Rattle.std.specs.BTreeMap.{get};
-    ghost use Rattle.std.specs.Map.{keys_of, values_of};
+    ghost use Rattle.std.specs.Map.{keys_of};
     ghost use Rattle.sdb_types.specs.declared.key.Key.{Key as KeyValue};
     ghost use Rattle.sdb_types.specs.Order.{key_cmp};
-    ghost use Rattle.sdb_snapshot.specs.Places.{AreNumbered, HaveFirstIndexes};
+    ghost use Rattle.sdb_snapshot.specs.Places.{HaveFirstIndexes};
 
     ghost Value = { List (KeyValue × V) };
 
-    ghost view = { λ m. values_of m.entries.entries };
+    ghost view = { λ m. m.entries };
 
-    ghost invariant = { λ m. AreNumbered 0 m.entries.entries × HaveFirstIndexes (keys_of (values_of m.entries.entries)) (get key_cmp m.places) };
+    ghost invariant = { λ m. HaveFirstIndexes (keys_of m.entries) (get key_cmp m.places) };
+}
+
+// The keys of a span among those of a tree, as records without columns: they come together, from the span's least key on.
+fn keys_among(
+    alloc: Global,
+    places: &BTreeMap<Key, usize>,
+    span: &Span,
+) -> Result<Records, NoMemory>
+    ensures keys { IfOk result (λ found. found ≡ keys_among_lem span.now places.now.entries) }
+    ensures ordered { OnOk result (IsOrdered key_cmp places.now) }
+{
+    let start = least_key(alloc, span)?;
+    let mut found = Seq::new(alloc);
+    for (key, _place) in places.range(start..) {
+        if !span.contains(key) {
+            break;
+        }
+        found.push(Record {
+            key: key.copy()?,
+            columns: Columns::new(alloc),
+        })?;
+    }
+    Ok(found)
+}
+
+// What a tree has at a key. Most keys come in their order, and are then looked for again: so the tree's last key is asked first.
+fn index_of(places: &BTreeMap<Key, usize>, key: &Key) -> Option<usize>
+    ensures { result ≡ get key_cmp places.now key.now }
+{
+    if let Some((last, i)) = places.last_key_value() {
+        match last.compare(key) {
+            Ordering::Less => return None,
+            Ordering::Equal => return Some(*i),
+            Ordering::Greater => {}
+        }
+    }
+    match places.get(key) {
+        Some(i) => Some(*i),
+        None => None,
+    }
 }
 
 impl<V> KeyMap<V> {
@@ -54,7 +99,8 @@ impl<V> KeyMap<V> {
         ensures { result ≡ [] }
     {
         KeyMap {
-            entries: IndexMap::new(alloc),
+            alloc,
+            entries: Seq::new(alloc),
             places: BTreeMap::new(alloc),
         }
     }
@@ -70,8 +116,8 @@ impl<V> KeyMap<V> {
     pub fn at(&self, i: usize) -> Option<(&Key, &V)>
         ensures { option_map deref_pair result ≡ slice_get self.now i }
     {
-        match self.entries.get_index(i) {
-            Some((_, entry)) => Some((&entry.0, &entry.1)),
+        match self.entries.as_slice().get(i) {
+            Some(entry) => Some((&entry.0, &entry.1)),
             None => None,
         }
     }
@@ -110,12 +156,19 @@ impl<V> KeyMap<V> {
     pub fn place(&self, key: &Key) -> Option<usize>
         ensures { result ≡ position (same_key key.now) (keys_of self.now) }
     {
-        let i = *self.places.get(key)?;
+        let i = index_of(&self.places, key)?;
         if self.is_key_at(i, key) {
             Some(i)
         } else {
             None
         }
+    }
+
+    /// The keys of a span, in their order, as records without columns, and perhaps others of the span.
+    pub fn keys_in(&self, span: &Span) -> Result<Records, NoMemory>
+        ensures { IfOk result (λ keys. AreKeysIn self.now span.now keys) }
+    {
+        keys_among(self.alloc, &self.places, span)
     }
 
     /// Keeps the keys that were put first, so many, and drops the others. Takes no memory.
@@ -124,37 +177,29 @@ impl<V> KeyMap<V> {
         V: Drop,
         ensures { self.new ≡ take len self.old }
     {
-        self.entries.truncate(len);
+        cut(self.alloc, &mut self.entries, len);
     }
 
     // Puts a value at a key that has this place.
-    fn replace(&mut self, i: usize, key: Key, value: V) -> Result<(), NoMemory>
+    fn replace(&mut self, i: usize, key: Key, value: V)
     where
         V: Drop,
         requires { position (same_key key) (keys_of self.old) ≡ Some i }
-        ensures ok { OnOk result (self.new ≡ slice_set self.old i (key, value)) }
-        ensures err { OnErr result (self.new ≡ self.old) }
+        ensures { self.new ≡ slice_set self.old i (key, value) }
     {
-        match self.entries.insert(i, (key, value)) {
-            Ok(_) => Ok(()),
-            Err(_) => Err(NoMemory),
-        }
+        self.entries.replace(i, (key, value));
     }
 
-    // Puts a new key last, with its value.
-    fn push(&mut self, key: Key, value: V) -> Result<(), NoMemory>
+    /// Puts a new key last, with its value.
+    pub fn push(&mut self, key: Key, value: V) -> Result<(), NoMemory>
     where
         V: Drop,
         requires { position (same_key key) (keys_of self.old) ≡ None }
         ensures ok { OnOk result (self.new ≡ self.old ++ (key, value) ∷ []) }
         ensures err { OnErr result (self.new ≡ self.old) }
     {
-        let last = self.entries.len();
-        self.places.insert(key.copy()?, last)?;
-        match self.entries.insert(last, (key, value)) {
-            Ok(_) => Ok(()),
-            Err(_) => Err(NoMemory),
-        }
+        self.places.insert(key.copy()?, self.entries.len())?;
+        self.entries.push((key, value))
     }
 
     /// Puts a value at a key. A key that is there keeps its place, and a new one goes last.
@@ -165,7 +210,10 @@ impl<V> KeyMap<V> {
         ensures err { OnErr result (self.new ≡ self.old) }
     {
         match self.place(&key) {
-            Some(i) => self.replace(i, key, value),
+            Some(i) => {
+                self.replace(i, key, value);
+                Ok(())
+            }
             None => self.push(key, value),
         }
     }

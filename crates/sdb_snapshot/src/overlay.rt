@@ -8,7 +8,7 @@ use crate::read_set::ReadSet;
 use crate::row::{row_of_change, row_of_found};
 use crate::write_set::WriteSet;
 use sdb_record::{Image, Images};
-use sdb_types::{Columns, Duplicate, Key, NoMemory, Record};
+use sdb_types::{Columns, Duplicate, Key, NoMemory, Records};
 use std::alloc::Global;
 
 // The row of what was found at a key.
@@ -37,14 +37,11 @@ fn row_at(
 }
 
 // Puts the image of a row last, where there is one.
-fn put_image(images: &mut Images, key: &Key, row: Option<Columns>) -> Result<(), NoMemory>
-    ensures { OnOk result (images.new ≡ images.old ++ images_with key.now row) }
+fn put_image(images: &mut Images, key: Key, row: Option<Columns>) -> Result<(), NoMemory>
+    ensures { OnOk result (images.new ≡ images.old ++ images_with key row) }
 {
     if let Some(columns) = row {
-        images.push(Image {
-            key: key.copy()?,
-            columns,
-        })?;
+        images.push(Image { key, columns })?;
     }
     Ok(())
 }
@@ -59,8 +56,12 @@ pub fn image_of_key(
     ensures { IfOk result (λ images. images ≡ images_with key.now (row_seen read_set.now write_set.now key.now)) }
 {
     let mut images = Images::new(alloc);
-    let row = row_at(alloc, read_set, write_set, key)?;
-    put_image(&mut images, key, row)?;
+    if let Some(columns) = row_at(alloc, read_set, write_set, key)? {
+        images.push(Image {
+            key: key.copy()?,
+            columns,
+        })?;
+    }
     Ok(images)
 }
 
@@ -70,13 +71,13 @@ fn put_images(
     images: &mut Images,
     read_set: &ReadSet,
     write_set: &WriteSet,
-    keys: &[Record],
+    keys: Records,
 ) -> Result<(), NoMemory>
-    ensures { OnOk result (images.new ≡ images.old ++ images_at (row_seen read_set.now write_set.now) keys.now) }
+    ensures { OnOk result (images.new ≡ images.old ++ images_at (row_seen read_set.now write_set.now) keys) }
 {
-    for rec in keys {
+    for rec in keys.into_vec() {
         let row = row_at(alloc, read_set, write_set, &rec.key)?;
-        put_image(images, &rec.key, row)?;
+        put_image(images, rec.into_key(), row)?;
     }
     Ok(())
 }
@@ -86,9 +87,9 @@ pub fn images_of_keys(
     alloc: Global,
     read_set: &ReadSet,
     write_set: &WriteSet,
-    keys: &[Record],
+    keys: Records,
 ) -> Result<Images, NoMemory>
-    ensures { IfOk result (λ images. images ≡ images_at (row_seen read_set.now write_set.now) keys.now) }
+    ensures { IfOk result (λ images. images ≡ images_at (row_seen read_set.now write_set.now) keys) }
 {
     let mut images = Images::new(alloc);
     put_images(alloc, &mut images, read_set, write_set, keys)?;

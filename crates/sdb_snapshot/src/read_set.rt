@@ -1,59 +1,34 @@
 //! What was found at the keys that were read.
 ghost use Rattle.std.specs.Prelude.{◌≡◌, ◌++◌, [], ◌∷◌, IfOk, OnOk, OnErr, IfSome, length, take, false};
 ghost use Rattle.std.specs.Option.{option_copied};
-ghost use Rattle.std.specs.FinMap as map;
 ghost use Rattle.sdb_snapshot.specs.Entries.{value_at};
 ghost use Rattle.sdb_snapshot.specs.Sets.{StartsWith};
 ghost use Rattle.sdb_snapshot.specs.Reads.{AreKeysOf, base_at, is_key_read as is_key_read_lem, record_read_at, with_images, with_read_record};
 
 use crate::KeyMap;
-use sdb_ordered::Tree;
-use sdb_store::Rows;
-use sdb_types::{Columns, Duplicate, Key, NoMemory, Record, Records, Span};
+use sdb_types::{Duplicate, Key, NoMemory, Record, Records, Span};
 use std::alloc::Global;
 use std::marker::Model;
 
-/// What was found at each key that was read, in the order of first reading. The keys are in a tree too, in their own
-/// order, so that those of a span are found without the others. The tree may hold keys more: those that were put there
-/// before memory ran out in the middle of a scan.
+/// What was found at each key that was read, in the order of first reading. The keys of a span are found without the others.
 pub struct ReadSet {
-    alloc: Global,
     found: KeyMap<Option<Record>>,
-    order: Tree,
 }
 
 // By hand: each drop is then one call, where a derived one is written out at each exit, with a call for each field.
 impl Drop for ReadSet {
     fn drop(self) {
-        let ReadSet {
-            alloc: _,
-            found: _,
-            order: _,
-        } = self;
+        let ReadSet { found: _ } = self;
     }
 }
 
 impl Model for ReadSet {
     ghost use Rattle.std.specs.Prelude.{List};
     ghost use Rattle.sdb_snapshot.specs.Reads.{ReadRecord};
-    ghost use Rattle.sdb_snapshot.specs.Sets.{InOrder};
 
     ghost Value = { List ReadRecord };
 
     ghost view = { λ n. n.found };
-
-    ghost invariant = { λ n. InOrder n.found n.order };
-}
-
-// Puts a key among those of a tree.
-fn put_key(alloc: Global, order: &mut Tree, key: &Key) -> Result<(), NoMemory>
-    ensures ok { OnOk result (order.new ≡ map.insert order.old key.now []) }
-    ensures err { OnErr result (order.new ≡ order.old) }
-{
-    order.insert(Record {
-        key: key.copy()?,
-        columns: Columns::new(alloc),
-    })
 }
 
 impl ReadSet {
@@ -61,9 +36,7 @@ impl ReadSet {
         ensures { result ≡ [] }
     {
         ReadSet {
-            alloc,
             found: KeyMap::new(alloc),
-            order: Tree::new(alloc),
         }
     }
 
@@ -96,8 +69,7 @@ impl ReadSet {
         ensures ok { OnOk result (self.new ≡ self.old ++ (key, found) ∷ []) }
         ensures err { OnErr result (self.new ≡ self.old) }
     {
-        put_key(self.alloc, &mut self.order, &key)?;
-        self.found.put(key, found)
+        self.found.push(key, found)
     }
 
     // Adds a record of a scan, where its key was not read.
@@ -156,6 +128,6 @@ impl ReadSet {
     pub fn keys_in(&self, span: &Span) -> Result<Records, NoMemory>
         ensures { IfOk result (λ keys. AreKeysOf self.now span.now keys) }
     {
-        self.order.list(span)
+        self.found.keys_in(span)
     }
 }

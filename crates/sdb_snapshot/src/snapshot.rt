@@ -220,7 +220,7 @@ impl Snapshot {
         ensures { IfOk result (λ images. images ≡ overlay (access.Scan span.now) self.now) }
     {
         let keys = self.read_set.keys_in(span)?;
-        images_of_keys(self.alloc, &self.read_set, &self.write_set, keys.as_slice())
+        images_of_keys(self.alloc, &self.read_set, &self.write_set, keys)
     }
 
     /// Writes changes of keys that were read, in order: all or, where they are refused, none. A key that was written keeps

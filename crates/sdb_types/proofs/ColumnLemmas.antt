@@ -1,5 +1,5 @@
 -- A column set at its place, and columns stay columns.
-use Rattle.std.proofs.Common.{◌≡◌, ℕ, zero, suc, ◌<◌, ◌≤◌, List, [], ◌∷◌, true, false, not, refl, sym, ap, ◌∙◌, ◌-◌, subst, arith, length, drop, get_or}
+use Rattle.std.proofs.Common.{◌≡◌, ℕ, zero, suc, ◌<◌, ◌≤◌, List, [], ◌∷◌, ◌++◌, true, false, not, refl, sym, ap, ◌∙◌, ◌-◌, subst, arith, length, drop, get_or}
 use Rattle.std.specs.Prelude.{insert, remove, slice_set, slice_get, if◌then◌else◌, Some}
 use Rattle.std.specs.Option.{option_map_or}
 use Rattle.std.proofs.lemmas.List.{get_or_default}
@@ -157,6 +157,29 @@ end-is_place name (e ∷ es) c h =
       λ k d l u. columns_parted name (e ∷ es) c k (length es) d (omega arith) (omega arith) (ap (is_below name) (get_or_default (e ∷ es) (length es) d e (omega arith)) ∙ below),
       λ k d l u. absurd (omega arith),
     )
+
+-- behind all others
+put_behind : (p : Pair) (es : List Pair) → length es ≡ place_in p.name es → es ++ p ∷ [] ≡ put_pair p es
+put_behind p [] h = refl
+put_behind p (e ∷ es) h =
+    by_order (name_cmp e.name p.name)
+    (λ q. let t = simp q at h in simp q (ap (λ l. e ∷ l) (put_behind p es (omega (arith, t)))))
+    (λ q. let t = simp q at h in absurd (omega (arith, t)))
+    (λ q. let t = simp q at h in absurd (omega (arith, t)))
+
+none_behind : (name : List ℕ) (es : List Pair) → length es ≡ place_in name es → es ≡ take_out name es
+none_behind name [] h = refl
+none_behind name (e ∷ es) h =
+    by_order (name_cmp e.name name)
+    (λ q. let t = simp q at h in simp q (ap (λ l. e ∷ l) (none_behind name es (omega (arith, t)))))
+    (λ q. let t = simp q at h in absurd (omega (arith, t)))
+    (λ q. let t = simp q at h in absurd (omega (arith, t)))
+
+pub with_column-last : (p : Pair) (es : List Pair) → are_columns es ≡ true → ends_below p.name es ≡ true → is_null p.value ≡ false → es ++ p ∷ [] ≡ with_column p es
+with_column-last p es c h k = rw k (put_behind p es (end-is_place p.name es c h))
+
+pub with_column-not_last : (p : Pair) (es : List Pair) → are_columns es ≡ true → ends_below p.name es ≡ true → is_null p.value ≡ true → es ≡ with_column p es
+with_column-not_last p es c h k = rw k (none_behind p.name es (end-is_place p.name es c h))
 
 -- the same at a place that a search has given
 module _ (p : Pair) (es : List Pair) (n : ℕ) (at : n ≡ place_in p.name es) where

@@ -64,17 +64,6 @@ fn are_below(pairs: &[Pair], name: &Name) -> bool
     }
 }
 
-// The same. Most columns are set in the order of their names, so the end is looked at first.
-fn place_from_end(pairs: &[Pair], name: &Name) -> usize
-    requires { are_columns pairs.now ≡ true }
-    ensures { result ≡ place_in name.now pairs.now }
-{
-    if are_below(pairs, name) {
-        return pairs.len();
-    }
-    place_of(pairs, name)
-}
-
 fn is_at(pairs: &[Pair], place: usize, name: &Name) -> bool
     ensures { result ≡ is_first_name name.now (drop place pairs.now) }
 {
@@ -111,12 +100,29 @@ pub fn value_named<'a>(pairs: &'a [Pair], name: &str) -> Option<&'a Value>
         .map(|pair| &pair.value)
 }
 
+// Puts a pair behind all others.
+fn put_last(pairs: &mut SharedSeq<Pair>, pair: Pair) -> Result<(), NoMemory>
+    requires columns { are_columns pairs.old ≡ true }
+    requires below { ends_below pair.name pairs.old ≡ true }
+    ensures ok { OnOk result (pairs.new ≡ with_column pair pairs.old) }
+    ensures err { OnErr result (pairs.new ≡ pairs.old) }
+{
+    if is_null_value(&pair.value) {
+        return Ok(());
+    }
+    pairs.push(pair)
+}
+
+// Puts a pair at its place. Most columns are set in the order of their names, so the end is looked at first.
 fn put(pairs: &mut SharedSeq<Pair>, pair: Pair) -> Result<(), NoMemory>
     requires { are_columns pairs.old ≡ true }
     ensures ok { OnOk result (pairs.new ≡ with_column pair pairs.old) }
     ensures err { OnErr result (pairs.new ≡ pairs.old) }
 {
-    let place = place_from_end(pairs.as_slice(), &pair.name);
+    if are_below(pairs.as_slice(), &pair.name) {
+        return put_last(pairs, pair);
+    }
+    let place = place_of(pairs.as_slice(), &pair.name);
     let known = is_at(pairs.as_slice(), place, &pair.name);
     if is_null_value(&pair.value) {
         if known {

@@ -75,11 +75,11 @@ impl<T> SharedSeq<T> {
     }
 }
 
-// A list of one item.
+// A list of one item. Most lists of values stay so, and have no room for more.
 fn of_one<T: Drop>(alloc: Global, item: T) -> Result<Rc<Seq<T>>, NoMemory>
     ensures { IfOk result (λ shared. shared.value ≡ item ∷ []) }
 {
-    let mut items = Seq::new(alloc);
+    let mut items = Seq::with_room(alloc, 1)?;
     items.push(item)?;
     Ok(Rc::new(alloc, items)?)
 }

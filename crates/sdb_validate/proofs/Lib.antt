@@ -4,5 +4,6 @@ mod Ordered
 mod Ranges
 mod Rescans
 mod Trees
+mod Unwritten
 mod Places
 pub mod Public

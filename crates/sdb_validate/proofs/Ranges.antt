@@ -57,7 +57,7 @@ one_based span e es m q h =
           ap (λ b. expected_of_written b (at q es) (Some (wish.Based (wished_version (get m e.0) e.1)))) inside ∙ again (at q es) (get m e.0) e.1
           ∙ ap (λ k. Some (wish.Based (wished_version (get m k) e.1))) (sym here) ∙ ap (λ b. expected_of_written b (Some e.1) (get m q)) (sym inside)
 
-none_based : (b : Bool) (o : Option Expected) → expected_of_written b None o ≡ o
+pub none_based : (b : Bool) (o : Option Expected) → expected_of_written b None o ≡ o
 none_based true o = refl
 none_based false o = refl
 

@@ -31,11 +31,11 @@ wanted-get own scan q = wish-find (entries (wishes own scan)) q ∙ sym (get-ent
 ---- the keys that the scan found
 
 -- what the scan's own keys are to have
-read_wish : List Read → Key → Option Expected → Option Expected
+unfoldable pub read_wish : List Read → Key → Option Expected → Option Expected
 read_wish [] q o = o
 read_wish (r ∷ rs) q o = cond (same_key q r.key) (Some (wish.Unchanged r.version)) (read_wish rs q o)
 
-behind_trans : (q k : Key) (rs : List Read) → key_cmp q k ≡ Less → starts_behind k rs ≡ true → starts_behind q rs ≡ true
+pub behind_trans : (q k : Key) (rs : List Read) → key_cmp q k ≡ Less → starts_behind k rs ≡ true → starts_behind q rs ≡ true
 behind_trans q k [] h s = refl
 behind_trans q k (r ∷ rs) h s = ap is_lt (key_total.trans q k r.key h (less_of (key_cmp k r.key) s))
 
@@ -47,7 +47,7 @@ not_behind q (r ∷ rs) o h s =
     ap (λ x. cond (is_eq x) (Some (wish.Unchanged r.version)) (read_wish rs q o)) less
     ∙ not_behind q rs o (and_second (starts_behind r.key rs) (reads_rise rs) h) (behind_trans q r.key rs less (and_first (starts_behind r.key rs) (reads_rise rs) h))
 
-reads-get : (rs : List Read) (m : Wishes) (q : Key) → reads_rise rs ≡ true → get (with_reads rs m) q ≡ read_wish rs q (get m q)
+pub reads-get : (rs : List Read) (m : Wishes) (q : Key) → reads_rise rs ≡ true → get (with_reads rs m) q ≡ read_wish rs q (get m q)
 unfolding read_wish same_key
 reads-get [] m q h = refl
 reads-get (r ∷ rs) m q h =

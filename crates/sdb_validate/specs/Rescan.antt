@@ -2,7 +2,7 @@
 use Rattle.std.specs.Prelude.{◌≡◌, Bool, true, false, ◌&&◌, if◌then◌else◌, List, [], ◌∷◌, Option, Some, None}
 use Rattle.std.specs.Ordering.{is_lt}
 use Rattle.std.specs.declared.cmp.Ordering.TheVariants.{Less}
-use Rattle.sdb_validate.specs.Types.{Expected, Key, Read, Record, Scan, Span, TxId, Write}
+use Rattle.sdb_validate.specs.Types.{Expected, Key, Read, Record, Scan, Span, TxId, Wanted, Write}
 use Rattle.sdb_types.specs.Order.{key_cmp}
 use Rattle.sdb_types.specs.Contents.{in_span, record_among}
 use Rattle.sdb_record.specs.Moved.{same_version, is_unchanged}
@@ -39,6 +39,10 @@ starts_behind key (r ∷ rs) = is_lt (key_cmp key r.key)
 abbrev pub reads_rise : List Read → Bool
 reads_rise [] = true
 reads_rise (r ∷ rs) = starts_behind r.key rs && reads_rise rs
+
+-- a key that was found is to have its version
+abbrev pub wanted_of_read : Read → Wanted
+wanted_of_read r = record { key = r.key; wish = wish.Unchanged r.version }
 
 -- A rescan passes where every key is kept. Else its conflict is at the first key in key order that isn't, with what is
 -- there.

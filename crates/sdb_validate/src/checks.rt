@@ -6,13 +6,13 @@ ghost use Rattle.std.specs.FinMap as fin;
 ghost use Rattle.sdb_types.specs.declared.key.Key.{Key as KeyValue};
 ghost use Rattle.sdb_types.specs.Contents.{in_span};
 ghost use Rattle.sdb_types.specs.Order.{key_cmp};
-ghost use Rattle.sdb_phases.specs.Checks.{with_reads, wished_version, base_of, check_of_read, check_of_scan, checks_of};
-ghost use Rattle.sdb_validate.specs.Rescan.{expected_of_written};
+ghost use Rattle.sdb_phases.specs.Checks.{with_reads, wished_version, base_of, check_of_read, check_of_scan, checks_of, wanted as wanted_lem};
+ghost use Rattle.sdb_validate.specs.Rescan.{expected_of_written, reads_rise, wanted_of_read};
 ghost use Rattle.sdb_record.specs.Among.{is_written};
 
 use crate::key_map::ExpectedMap;
 use sdb_ordered::least_key;
-use sdb_phases::{Check, Checks, Expected, Target};
+use sdb_phases::{Check, Checks, Expectations, Expected, Target, Wanted};
 use sdb_record::{Read, Reads, Scan, Scans, Write, Writes, is_same_version, version_of};
 use sdb_types::{Duplicate, Key, NoMemory, Request, Seq, Span, TxId};
 use std::alloc::Global;
@@ -63,17 +63,62 @@ fn put_writes(
     Ok(())
 }
 
+// Whether the keys of reads rise.
+fn rise(reads: &[Read]) -> bool
+    ensures { result ≡ reads_rise reads.now }
+{
+    let mut i = 1;
+    while i < reads.len() {
+        if !reads[i - 1].key.compare(&reads[i].key).is_lt() {
+            return false;
+        }
+        i += 1;
+    }
+    true
+}
+
+// Each key that was found, with its version.
+fn unchanged(alloc: Global, reads: &[Read]) -> Result<Expectations, NoMemory>
+    ensures { IfOk result (λ wants. wants ≡ map wanted_of_read reads.now) }
+{
+    let mut wants = Seq::new(alloc);
+    for read in reads {
+        wants.push(Wanted {
+            key: read.key.copy()?,
+            wish: Expected::Unchanged(read.version),
+        })?;
+    }
+    Ok(wants)
+}
+
+// What a scan is to find: where nothing was written, what it found.
+fn wanted(
+    alloc: Global,
+    bases: &Bases,
+    own: &[Write],
+    scan: &Scan,
+) -> Result<Expectations, NoMemory>
+    requires { (key : KeyValue) → get key_cmp bases.now key ≡ base_of own.now key }
+    ensures { IfOk result (λ wants. wants ≡ wanted_lem own.now scan.now) }
+{
+    let found = scan.found.as_slice();
+    if bases.is_empty() && rise(found) {
+        return unchanged(alloc, found);
+    }
+    let mut wishes = ExpectedMap::new(alloc);
+    put_reads(&mut wishes, found)?;
+    put_writes(alloc, &mut wishes, &scan.span, bases)?;
+    wishes.list()
+}
+
 // A scan again, with what it is to find.
 fn rescan(alloc: Global, bases: &Bases, own: &[Write], scan: &Scan) -> Result<Check, NoMemory>
     requires { (key : KeyValue) → get key_cmp bases.now key ≡ base_of own.now key }
     ensures { IfOk result (λ check. check ≡ check_of_scan own.now scan.now) }
 {
-    let mut wishes = ExpectedMap::new(alloc);
-    put_reads(&mut wishes, scan.found.as_slice())?;
-    put_writes(alloc, &mut wishes, &scan.span, bases)?;
     Ok(Check {
         request: Request::Scan(scan.span.copy()?),
-        target: Target::Rows(wishes.list()?),
+        target: Target::Rows(wanted(alloc, bases, own, scan)?),
     })
 }
 

@@ -6,4 +6,4 @@ use Rattle.sdb_record.proofs.part.value_within.Goals as goal
 
 pub returns : goal.returns
 returns c =
-    c.value_named.ensures ∙ ap (λ ps. column ps c.text.result.now) c.pairs.ensures ∙ ap (column c.args.columns.now) c.text.ensures.text ∙ sym (column-columns_of c.args.part c.args.columns.now (meta_name c.args.wanted))
+    c.get.ensures ∙ ap (column c.args.columns.now) (c.known.ensures ∙ c.word.ensures) ∙ sym (column-columns_of c.args.part c.args.columns.now (meta_name c.args.wanted))

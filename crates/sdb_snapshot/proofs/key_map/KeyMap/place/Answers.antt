@@ -3,17 +3,23 @@ use Rattle.std.specs.BTreeMap.{get}
 use Rattle.std.specs.Map.{keys_of}
 use Rattle.sdb_types.specs.Order.{key_cmp}
 use Rattle.sdb_snapshot.specs.Places.{HaveFirstIndexes}
-use Rattle.sdb_snapshot.proofs.Firsts.{among_at, not_at}
+use Rattle.sdb_snapshot.proofs.Firsts.{among_at, not_among, not_at}
 use Rattle.sdb_snapshot.proofs.key_map.KeyMap.place.Goals as goal
+
+pub returns-in_err-i : goal.returns-in_err-i
+returns-in_err-i g c =
+    let index = get key_cmp c.self.inside.places in
+    let have = subst (λ es. HaveFirstIndexes (keys_of es) index) c.self.view_is c.self.invariant in
+    c.from_residual.ensures ∙ sym (not_among (keys_of c.args.self.now) index c.args.key.now have (sym c.in_err-i.ensures))
 
 pub returns-then-is_key_at : goal.returns-then-is_key_at
 returns-then-is_key_at g c =
     let index = get key_cmp c.self.inside.places in
-    let have = subst (λ es. HaveFirstIndexes (keys_of es) index) c.self.view_is c.self.invariant.1 in
-    sym (among_at (keys_of c.args.self.now) index c.args.key.now c.in_ok-i.field-0.now have (sym c.in_ok-i.ensures.value) (sym c.is_key_at.ensures ∙ c.if-is_key_at.true))
+    let have = subst (λ es. HaveFirstIndexes (keys_of es) index) c.self.view_is c.self.invariant in
+    sym (among_at (keys_of c.args.self.now) index c.args.key.now c.in_ok-i.i have (sym c.in_ok-i.ensures) (sym c.is_key_at.ensures ∙ c.if-is_key_at.true))
 
 pub returns-else-is_key_at : goal.returns-else-is_key_at
 returns-else-is_key_at g c =
     let index = get key_cmp c.self.inside.places in
-    let have = subst (λ es. HaveFirstIndexes (keys_of es) index) c.self.view_is c.self.invariant.1 in
-    sym (not_at (keys_of c.args.self.now) index c.args.key.now c.in_ok-i.field-0.now have (sym c.in_ok-i.ensures.value) (sym c.is_key_at.ensures ∙ c.if-is_key_at.false))
+    let have = subst (λ es. HaveFirstIndexes (keys_of es) index) c.self.view_is c.self.invariant in
+    sym (not_at (keys_of c.args.self.now) index c.args.key.now c.in_ok-i.i have (sym c.in_ok-i.ensures) (sym c.is_key_at.ensures ∙ c.if-is_key_at.false))
