@@ -20,7 +20,8 @@ use Rattle.sdb_loader.specs.declared.fault.SchemaFault.TheVariants as fault
 use Rattle.sdb_loader.specs.Described.{described_table, described_tables, refusal_in, table_of}
 use Rattle.sdb_loader.proofs.Public.{order_named-behind}
 use Rattle.sdb_catalog.proofs.Texts.{read_again}
-use Rattle.sdb_catalog.specs.Definition.{columns_data, definition_of, definition_text, direction_text, kind_text, order_text}
+use Rattle.sdb_catalog.specs.Definition.{columns_data, definition_of, definition_text, direction_text, order_text}
+use Rattle.sdb_schema.specs.Kinds.{kind_text}
 
 ---- single texts
 
@@ -29,7 +30,7 @@ unfolding direction_named
 direction_again Asc = refl
 direction_again Desc = refl
 
-kind_again : (k : Kind) → kind_named (kind_text k) ≡ Some k
+pub kind_again : (k : Kind) → kind_named (kind_text k) ≡ Some k
 unfolding kind_named
 kind_again kind.Boolean = refl
 kind_again kind.Int = refl

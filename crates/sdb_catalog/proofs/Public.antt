@@ -1,5 +1,5 @@
 -- The lemmas of this crate that others cite.
-pub use Rattle.sdb_catalog.proofs.Again.{defined, fields_again, kinds_again, refused_none, rising_columns, sound, table_again}
+pub use Rattle.sdb_catalog.proofs.Again.{defined, fields_again, kind_again, kinds_again, refused_none, rising_columns, sound, table_again}
 pub use Rattle.sdb_catalog.proofs.Altering.{next_fits, version_there}
 pub use Rattle.sdb_catalog.proofs.Calling.{left_by}
 pub use Rattle.sdb_catalog.proofs.Catalogs.{key_of_row, own_ns}

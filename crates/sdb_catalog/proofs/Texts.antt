@@ -19,7 +19,8 @@ use Rattle.sdb_types.proofs.Public.{and_both, and_first, and_second}
 use Rattle.sdb_catalog.specs.Types.{Column, Table}
 use Rattle.sdb_schema.specs.Table.{rises}
 use Rattle.sdb_catalog.proofs.Members.{AreRead, keys_rise, members_of, members_read}
-use Rattle.sdb_catalog.specs.Definition.{columns_data, definition_of, definition_text, kind_text, order_text}
+use Rattle.sdb_catalog.specs.Definition.{columns_data, definition_of, definition_text, order_text}
+use Rattle.sdb_schema.specs.Kinds.{kind_text}
 
 ---- strings in an array
 

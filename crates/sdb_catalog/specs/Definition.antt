@@ -3,17 +3,10 @@ use Rattle.std.specs.Prelude.{ℕ, List, [], ◌∷◌, ◌++◌, map, codes}
 use Rattle.serde_json.specs.Data.{Data, string, array, object, Members, no_members, member}
 use Rattle.serde_json.specs.View.{items_of}
 use Rattle.serde_json.specs.Written.{compact_text}
-use Rattle.sdb_catalog.specs.Types.{Column, Direction, Kind, Order, Table}
-use Rattle.sdb_schema.specs.declared.table.Kind.TheVariants as kind
+use Rattle.sdb_catalog.specs.Types.{Column, Direction, Order, Table}
 use Rattle.sdb_schema.specs.declared.table.Direction.TheVariants.{Asc, Desc}
+use Rattle.sdb_schema.specs.Kinds.{kind_text}
 use Rattle.sdb_loader.specs.Fields.{clustering_key, columns, partition_key, secondary_index}
-
-abbrev pub kind_text : Kind → List ℕ
-kind_text kind.Boolean = codes "BOOLEAN"
-kind_text kind.Int = codes "INT"
-kind_text kind.BigInt = codes "BIGINT"
-kind_text kind.Text = codes "TEXT"
-kind_text kind.Blob = codes "BLOB"
 
 abbrev pub direction_text : Direction → List ℕ
 direction_text Asc = codes "ASC"

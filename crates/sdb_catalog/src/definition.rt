@@ -3,24 +3,12 @@ ghost use Rattle.std.specs.Prelude.{◌≡◌, true, IfOk, OnOk, string_bytes};
 ghost use Rattle.serde_json.specs.Data.{object, string, put as with_member};
 ghost use Rattle.serde_json.specs.View.{view, members_view};
 ghost use Rattle.sdb_schema.specs.Table.{rises};
-ghost use Rattle.sdb_catalog.specs.Definition.{columns_data, definition_of, definition_text as definition_text_lem, direction_text as direction_text_lem, keys_of, kind_text as kind_text_lem, names_data, order_text as order_text_lem, orders_data};
+ghost use Rattle.sdb_catalog.specs.Definition.{columns_data, definition_of, definition_text as definition_text_lem, direction_text as direction_text_lem, keys_of, names_data, order_text as order_text_lem, orders_data};
 
-use sdb_schema::{Column, Direction, Kind, Order, Orders, Table};
+use sdb_schema::{Column, Direction, Order, Orders, Table};
 use sdb_types::{Name, Names, NoMemory, Txt};
 use serde_json::{Map, Value, put};
 use std::alloc::Global;
-
-fn kind_text(kind: Kind) -> &'static str
-    ensures { result.now ≡ kind_text_lem kind }
-{
-    match kind {
-        Kind::Boolean => "BOOLEAN",
-        Kind::Int => "INT",
-        Kind::BigInt => "BIGINT",
-        Kind::Text => "TEXT",
-        Kind::Blob => "BLOB",
-    }
-}
 
 fn direction_text(direction: Direction) -> &'static str
     ensures { result.now ≡ direction_text_lem direction }
@@ -77,7 +65,7 @@ fn columns_map(alloc: Global, columns: &[Column]) -> Result<Map<String, Value>, 
         return Ok(Map::new(alloc));
     };
     let mut map = columns_map(alloc, later)?;
-    let kind = string_value(alloc, kind_text(column.kind))?;
+    let kind = string_value(alloc, column.kind.as_str())?;
     put(&mut map, alloc, column.name.as_str(), kind)?;
     Ok(map)
 }

@@ -1,5 +1,6 @@
 mod RealTime
 mod Basics
+mod Catalogs
 mod Requests
 mod Doubled
 mod Pieces

@@ -101,4 +101,5 @@ call_of (event.Call client store q how r answer) c h = inl (client, answer, ap (
 call_of (event.Stop client) c h = none_some c h
 call_of (event.Clock moment) c h = none_some c h
 call_of (event.Idle client) c h = none_some c h
+call_of (event.Alter table column kind altered) c h = absurd (cc)
 call_of (event.Land number store q how r) c h = inr (number, ap (λ (x : Contact). event.Land number x.store x.request x.how x.reply) (some_is (record { store = store; request = q; how = how; reply = r }) c h))

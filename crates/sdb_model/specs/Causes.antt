@@ -23,12 +23,12 @@ use Rattle.sdb_model.specs.declared.statement.Insert.{Insert}
 use Rattle.sdb_model.specs.declared.statement.Statement.{Statement}
 use Rattle.sdb_model.specs.declared.statement.Statement.TheVariants as statement
 use Rattle.sdb_model.specs.Sql.{Reads, Refuses, reads_commit, reads_vacuum}
-use Rattle.sdb_model.specs.Events.{catalog_at}
+use Rattle.sdb_model.specs.Catalogs.{catalog_after}
 use Rattle.sdb_model.specs.Access.{in_access}
 use Rattle.sdb_model.specs.Exec.{find_table, key_of, named_table, table_of}
 use Rattle.sdb_model.specs.Reads.{access_of}
 use Rattle.sdb_model.specs.Refused.{refusal_of}
-use Rattle.sdb_model.specs.Follows.{has_stopped}
+use Rattle.sdb_model.specs.Follows.{SomeClient, is_open, runs_vacuum}
 use Rattle.sdb_model.specs.Transactions.{Executed, statements_by, begins, ends, body, client_of, commit_of, statements_of, is_prepared_record, statements_inside}
 use Rattle.sdb_model.specs.Calls.{StoreCall, calls_of, calls_after, calls_before, clock_at, decision_found, decision_learned, is_of_row, is_read, is_removal, put_by, records_read, records_observed}
 use Rattle.sdb_model.specs.Requests.{any_of, records_put, observed_in}
@@ -43,24 +43,6 @@ before s events = take (s.accepted - 1) events
 abbrev pub is_select : Statement → Bool
 is_select (statement.Select s) = true
 is_select st = false
-
----- the state of a client after some events
-
--- A transaction is open from its BEGIN to the answer of the statement that ends it.
-abbrev pub is_open_after : Bool → Executed → Bool
-is_open_after was s = if begins s then true else if ends s && is_some s.answer then false else was
-
--- a client has a transaction open
-abbrev pub is_open : List Event → ℕ → Bool
-is_open events client = fold is_open_after false (statements_by client events)
-
--- a client's VACUUM has no answer yet
-abbrev pub runs_vacuum : List Event → ℕ → Bool
-runs_vacuum events client = fold (λ was s. reads_vacuum s.text && is_none s.answer) false (statements_by client events)
-
--- it holds of some client that isn't stopped
-abbrev pub SomeClient : (List Event → ℕ → Bool) → List Event → Type 0
-SomeClient is events = (client : ℕ) × (has_stopped client events ≡ false) × (is events client ≡ true)
 
 ---- statements that are rejected when they are accepted
 
@@ -85,7 +67,7 @@ IsOutside past client text a = (st : Statement) × Reads text st × NeedsTransac
 
 -- the catalog refuses it
 abbrev pub IsUnfit : List Table → List Event → ℕ → List ℕ → Answer → Type 0
-IsUnfit catalog past client text a = (st : Statement) × (r : Refusal) × Reads text st × (is_open past client ≡ true) × (is_some (table_of st) ≡ true) × (refusal_of (catalog_at catalog past (length past)) st ≡ Some r) × (a ≡ answer.Refused r)
+IsUnfit catalog past client text a = (st : Statement) × (r : Refusal) × Reads text st × (is_open past client ≡ true) × (is_some (table_of st) ≡ true) × (refusal_of (catalog_after catalog past) st ≡ Some r) × (a ≡ answer.Refused r)
 
 -- it is BEGIN while a client that isn't stopped runs VACUUM
 abbrev pub MeetsVacuum : List Event → ℕ → List ℕ → Answer → Type 0
@@ -229,10 +211,10 @@ pub record MeetsMisfit (catalog : List Table) (events : List Event) (client : �
   pub call : StoreCall
   pub found : Record
   pub within : IsIn events client s id × IsIn events client reader id × (reader.accepted ≤ s.accepted)
-  pub over : Reads s.text statement × (named_table (catalog_at catalog events s.accepted) statement ≡ Some table) × (in_access (access_of table statement) key ≡ true)
+  pub over : Reads s.text statement × (named_table (catalog_after catalog (before s events)) statement ≡ Some table) × (in_access (access_of table statement) key ≡ true)
   pub finished : has_read events client reader ≡ true
   pub reads : Contains (calls_of events client reader) call × (reads_rows call ≡ true) × Contains (records_read call.reply) found × (found.key ≡ key)
-  pub misfit : is_misfit catalog (calls_of events client reader) found ≡ true
+  pub misfit : is_misfit (catalog_after catalog (before s events)) (calls_of events client reader) found ≡ true
 
 -- a call of the statement found a record of the key, or a row of the coordinator, that isn't of the form of records
 abbrev pub FindsBad : List Event → ℕ → Executed → Key → Type 0
@@ -314,7 +296,7 @@ IsCaused catalog events client s (answer.Rows rows) = (st : Statement) × Reads 
 IsCaused catalog events client s (answer.Count n) = (st : Statement) × Reads s.text st × IsCounted events client s st n
 IsCaused catalog events client s answer.Done = Reads s.text statement.Begin ⊎ Reads s.text statement.Rollback
 IsCaused catalog events client s answer.Committed = IsOfCommit events client s
-IsCaused catalog events client s (answer.Duplicate key) = (t : Table) × (i : Insert) × Reads s.text (statement.Insert i) × (find_table (catalog_at catalog events s.accepted) i.table ≡ Some t) × (key_of t i ≡ key)
+IsCaused catalog events client s (answer.Duplicate key) = (t : Table) × (i : Insert) × Reads s.text (statement.Insert i) × (find_table (catalog_after catalog (before s events)) i.table ≡ Some t) × (key_of t i ≡ key)
 IsCaused catalog events client s (answer.Busy key id at) = IsBusy events client s key id at
 IsCaused catalog events client s (answer.Conflict key found) = IsConflict events client s key found
 IsCaused catalog events client s (answer.Expired id) = IsExpired events client s id

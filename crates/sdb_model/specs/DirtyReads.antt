@@ -18,7 +18,9 @@ use Rattle.sdb_model.specs.declared.statement.Statement.{Statement}
 use Rattle.sdb_model.specs.declared.statement.Statement.TheVariants as statement
 use Rattle.sdb_model.specs.Sql.{Reads}
 use Rattle.sdb_model.specs.Exec.{Tables, exec, find_table, projected}
-use Rattle.sdb_model.specs.Events.{StoreContents, catalog_at, moment}
+use Rattle.sdb_model.specs.Catalogs.{catalog_after}
+use Rattle.sdb_model.specs.Causes.{before}
+use Rattle.sdb_model.specs.Events.{StoreContents, moment}
 use Rattle.sdb_model.specs.Explained.{Observes}
 use Rattle.sdb_model.specs.Images.{row_at}
 use Rattle.sdb_model.specs.ReadSet.{meaning_of, has_read}
@@ -99,14 +101,14 @@ pub record HasRow (catalog : List Table) (was : Executed → Key → Option (Lis
   pub finished : has_read events (client_of id) first ≡ true
   pub observed : was first key base
   pub read : AreRead (filter is_effective changing) sts
-  pub made : row ≡ fold (λ r st. row_left catalog st key r) base sts
+  pub made : row ≡ fold (λ r st. row_left (catalog_after catalog (before s events)) st key r) base sts
 
 ---- the rows of answers
 
 -- Rows that a SELECT is answered are rows that its transaction has.
 abbrev pub RowsAreOf : List Table → (Executed → Key → Option (List Pair) → Type 0) → List Event → TxId → Executed → List (List Value) → Type 0
 RowsAreOf catalog was events id s rows =
-    (t : Table) × (select : Select) × (images : List Image) × Reads s.text (statement.Select select) × (find_table (catalog_at catalog events s.accepted) select.table ≡ Some t) × (rows ≡ map (projected t select.columns) images)
+    (t : Table) × (select : Select) × (images : List Image) × Reads s.text (statement.Select select) × (find_table (catalog_after catalog (before s events)) select.table ≡ Some t) × (rows ≡ map (projected t select.columns) images)
     × AllByRecursion (λ image. HasRow catalog was events id s image.key (Some image.columns)) images
 
 -- The key of a Duplicate has a row.

@@ -1,7 +1,7 @@
 -- The effect of events on the contents of the stores, and traces: when a list of events agrees with the stores.
 use Rattle.std.specs.Prelude.{◌≡◌, ◌⊎◌, ℕ, zero, suc, if◌then◌else◌, List, [], ◌∷◌, map, Option, Some, None, find}
 use Rattle.std.specs.Option.{option_map, option_map_or}
-use Rattle.sdb_model.specs.Types.{Key, Place, Record, Reply, Request, Table, TableName}
+use Rattle.sdb_model.specs.Types.{Key, Place, Record, Reply, Request, TableName}
 use Rattle.sdb_types.specs.declared.record.Request.TheVariants as ask
 use Rattle.sdb_types.specs.declared.record.Reply.TheVariants as reply
 use Rattle.sdb_types.specs.Contents.{Contents, record_at, apply, after}
@@ -10,10 +10,6 @@ use Rattle.sdb_model.specs.declared.event.Event.TheVariants as event
 use Rattle.sdb_model.specs.declared.event.How.{How}
 use Rattle.sdb_model.specs.declared.event.How.TheVariants.{Seen, Lost, Discarded, Delayed, Broken}
 use Rattle.sdb_model.specs.Rows.{Name, same_name}
-
--- The tables of a script after so many of its events: those of its catalog, since no event changes them.
-abbrev pub catalog_at : List Table → List Event → ℕ → List Table
-catalog_at catalog events n = catalog
 
 -- What one attached store holds, under the store's name.
 pub record StoreContents : Type 0 where
@@ -81,6 +77,7 @@ contact_of (event.Stop client) = None
 contact_of (event.Clock moment) = None
 contact_of (event.Idle client) = None
 contact_of (event.Land number store q how r) = Some (record { store = store; request = q; how = how; reply = r })
+contact_of (event.Alter table column kind altered) = None
 
 -- The effect of a contact on what the stores hold: without one they hold what they held.
 abbrev pub EffectOf : List Place → Option Contact → List StoreContents → List StoreContents → Type 0

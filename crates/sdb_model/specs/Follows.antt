@@ -1,10 +1,12 @@
 -- Which events follow a script: those of its moves, in order.
-use Rattle.std.specs.Prelude.{◌≡◌, ◌⊎◌, ℕ, zero, suc, ◌+◌, ◌≤◌, ◌<◌, Bool, true, false, not, ◌&&◌, ◌||◌, ◌==◌, nat_lt, if◌then◌else◌, MatchBool, List, [], ◌∷◌, ◌++◌, length, Option, Some, None, is_none, fold, slice_get}
+use Rattle.std.specs.Prelude.{◌≡◌, ◌⊎◌, ℕ, zero, suc, ◌+◌, ◌≤◌, ◌<◌, Bool, true, false, not, ◌&&◌, ◌||◌, ◌==◌, nat_lt, if◌then◌else◌, MatchBool, List, [], ◌∷◌, ◌++◌, length, Option, Some, None, is_none, is_some, fold, slice_get}
 use Rattle.std.specs.Option.{option_map_or}
 use Rattle.std.specs.List.{list_any, count_by, filter_map}
-use Rattle.sdb_model.specs.Types.{Request}
+use Rattle.sdb_model.specs.Types.{Column, Kind, Request, Table, TableName}
 use Rattle.sdb_types.specs.declared.record.Reply.{Reply}
 use Rattle.sdb_types.specs.declared.record.Reply.TheVariants as reply
+use Rattle.sdb_model.specs.declared.event.Altered.{Altered}
+use Rattle.sdb_model.specs.declared.event.Altered.TheVariants as altered
 use Rattle.sdb_model.specs.declared.event.Event.{Event}
 use Rattle.sdb_model.specs.declared.event.Event.TheVariants as event
 use Rattle.sdb_model.specs.declared.event.How.{How}
@@ -16,6 +18,11 @@ use Rattle.sdb_model.specs.declared.script.Move.TheVariants as move
 use Rattle.sdb_model.specs.declared.script.Script.{Script}
 use Rattle.sdb_model.specs.declared.script.ScriptClient.{ScriptClient}
 use Rattle.sdb_types.specs.Replies.{is_fault}
+use Rattle.sdb_schema.specs.Added.{column_refused}
+use Rattle.sdb_model.specs.Catalogs.{catalog_after}
+use Rattle.sdb_model.specs.Rows.{Name}
+use Rattle.sdb_model.specs.Sql.{reads_vacuum}
+use Rattle.sdb_model.specs.Transactions.{Executed, begins, ends, statements_by}
 
 ---- where a client is after the events so far
 
@@ -52,6 +59,24 @@ texts_of clients (suc i) = option_map_or (λ c. c.statements) (slice_get clients
 
 abbrev pub has_work : List ScriptClient → ℕ → List Event → Bool
 has_work clients client past = not (has_stopped client past) && (is_pending client past || nat_lt (takes_of client past) (length (texts_of clients client)))
+
+---- transactions and VACUUMs
+
+-- A transaction is open from its BEGIN to the answer of the statement that ends it.
+abbrev pub is_open_after : Bool → Executed → Bool
+is_open_after was s = if begins s then true else if ends s && is_some s.answer then false else was
+
+-- a client has a transaction open
+abbrev pub is_open : List Event → ℕ → Bool
+is_open events client = fold is_open_after false (statements_by client events)
+
+-- a client's VACUUM has no answer yet
+abbrev pub runs_vacuum : List Event → ℕ → Bool
+runs_vacuum events client = fold (λ was s. reads_vacuum s.text && is_none s.answer) false (statements_by client events)
+
+-- it holds of some client that isn't stopped
+abbrev pub SomeClient : (List Event → ℕ → Bool) → List Event → Type 0
+SomeClient is events = (client : ℕ) × (has_stopped client events ≡ false) × (is events client ≡ true)
 
 ---- one step
 
@@ -122,17 +147,36 @@ IsLanding k None e = e ≡ event.Idle 0
 IsLanding k (Some q) (event.Land n store request how r) = (n ≡ k) × (request ≡ q) × IsHowOfStep how r
 IsLanding k (Some q) _ = ⊥
 
+---- columns that are added
+
+-- a client that isn't stopped has a transaction open or runs VACUUM
+abbrev pub IsActive : List Event → Type 0
+IsActive past = SomeClient is_open past ⊎ SomeClient runs_vacuum past
+
+-- What becomes of a column that is to be added to a table of a catalog: nothing while a client is active; else the catalog refuses it, or it
+-- is added.
+abbrev pub IsAltered : List Table → List Event → TableName → Column → Altered → Type 0
+IsAltered catalog past table c altered.Open = IsActive past
+IsAltered catalog past table c (altered.Refused k) = (IsActive past → ⊥) × (column_refused catalog table c ≡ Some k)
+IsAltered catalog past table c altered.Done = (IsActive past → ⊥) × (column_refused catalog table c ≡ None)
+
+-- The event is that a column is to be added to a table, under the catalog as it is after the events so far.
+abbrev pub IsAlteration : List Table → List Event → TableName → Name → Kind → Event → Type 0
+IsAlteration catalog past table column kind e =
+    (a : Altered) × (e ≡ event.Alter table column kind a) × IsAltered (catalog_after catalog past) past table (record { name = column; kind = kind }) a
+
 ---- acts
 
 -- The event is what an act gives after the events so far.
-abbrev pub IsActed : List ScriptClient → Act → List Event → Event → Type 0
-IsActed clients (act.Step client) past e = IsStep clients client IsHowOfStep past e
-IsActed clients (act.Lose client) past e = IsStep clients client IsHowOfLose past e
-IsActed clients (act.Discard client) past e = IsStep clients client IsHowOfDiscard past e
-IsActed clients (act.Delay client) past e = IsStep clients client IsHowOfDelay past e
-IsActed clients (act.Land k) past e = IsLanding k (in_flight k past) e
-IsActed clients (act.Stop client) past e = e ≡ event.Stop client
-IsActed clients (act.Clock moment) past e = e ≡ event.Clock moment
+abbrev pub IsActed : Script → Act → List Event → Event → Type 0
+IsActed script (act.Step client) past e = IsStep script.clients client IsHowOfStep past e
+IsActed script (act.Lose client) past e = IsStep script.clients client IsHowOfLose past e
+IsActed script (act.Discard client) past e = IsStep script.clients client IsHowOfDiscard past e
+IsActed script (act.Delay client) past e = IsStep script.clients client IsHowOfDelay past e
+IsActed script (act.Land k) past e = IsLanding k (in_flight k past) e
+IsActed script (act.Stop client) past e = e ≡ event.Stop client
+IsActed script (act.Clock moment) past e = e ≡ event.Clock moment
+IsActed script (act.Alter table column kind) past e = IsAlteration script.catalog past table column kind e
 
 ---- moves
 
@@ -169,16 +213,16 @@ IsRest clients from past (e ∷ es) =
     (client : ℕ) × IsTurn clients past from client × IsStep clients client IsHowOfStep past e × IsRest clients (client + 1) (past ++ e ∷ []) es
 
 -- The events are those of one move.
-abbrev pub IsOfMove : List ScriptClient → Move → List Event → List Event → Type 0
-IsOfMove clients (move.Act a) past es = (e : Event) × (es ≡ e ∷ []) × IsActed clients a past e
-IsOfMove clients (move.Repeat client times) past es = (length es ≡ times) × AreStepsOf clients client past es
-IsOfMove clients move.Rest past es = IsRest clients 1 past es
+abbrev pub IsOfMove : Script → Move → List Event → List Event → Type 0
+IsOfMove script (move.Act a) past es = (e : Event) × (es ≡ e ∷ []) × IsActed script a past e
+IsOfMove script (move.Repeat client times) past es = (length es ≡ times) × AreStepsOf script.clients client past es
+IsOfMove script move.Rest past es = IsRest script.clients 1 past es
 
-abbrev pub AreOfMoves : List ScriptClient → List Move → List Event → List Event → Type 0
-AreOfMoves clients [] past es = es ≡ []
-AreOfMoves clients (m ∷ ms) past es =
-    (front : List Event) × (back : List Event) × (es ≡ front ++ back) × IsOfMove clients m past front × AreOfMoves clients ms (past ++ front) back
+abbrev pub AreOfMoves : Script → List Move → List Event → List Event → Type 0
+AreOfMoves script [] past es = es ≡ []
+AreOfMoves script (m ∷ ms) past es =
+    (front : List Event) × (back : List Event) × (es ≡ front ++ back) × IsOfMove script m past front × AreOfMoves script ms (past ++ front) back
 
 -- The events are, in order, those of a script's moves.
 abbrev pub Follows : Script → List Event → Type 0
-Follows script events = AreOfMoves script.clients script.moves [] events
+Follows script events = AreOfMoves script script.moves [] events

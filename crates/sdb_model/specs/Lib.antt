@@ -6,6 +6,7 @@ pub mod Exec
 pub mod Refused
 pub mod Requests
 pub mod Events
+pub mod Catalogs
 pub mod Follows
 pub mod Images
 pub mod Transactions

@@ -14,6 +14,8 @@ use Rattle.sdb_types.specs.declared.record.Request.TheVariants as ask
 use Rattle.sdb_model.specs.declared.answer.Answer.{Answer}
 use Rattle.sdb_model.specs.declared.answer.Answer.TheVariants as answer
 use Rattle.sdb_model.specs.declared.answer.Refusal.{Refusal}
+use Rattle.sdb_model.specs.declared.event.Altered.{Altered}
+use Rattle.sdb_model.specs.declared.event.Altered.TheVariants as altered
 use Rattle.sdb_model.specs.declared.event.Event.{Event}
 use Rattle.sdb_model.specs.declared.event.Event.TheVariants as event
 use Rattle.sdb_model.specs.declared.event.How.TheVariants.{Seen, Broken}
@@ -96,6 +98,11 @@ IsPlainGiven given = IfSome given IsPlainAnswer
 
 ---- events
 
+abbrev pub altered_is_plain : Altered → Type 0
+altered_is_plain altered.Done = Unit {0}
+altered_is_plain altered.Open = Unit {0}
+altered_is_plain (altered.Refused k) = k < 2 ^ 8
+
 -- the parts of an event, each with what its type keeps, each Conflict with a record of its own key, and each landing as a store
 -- answers it
 abbrev pub HasPlainParts : Event → Type 0
@@ -107,6 +114,7 @@ HasPlainParts (event.Clock moment) = FitsSigned w64 moment
 HasPlainParts (event.Idle client) = client < 2 ^ 32
 HasPlainParts (event.Land number store request how reply) =
     (number < 2 ^ 32) × (is_name store ≡ true) × request_is_plain request × reply_is_plain reply × ((how ≡ Seen) ⊎ (how ≡ Broken))
+HasPlainParts (event.Alter table column kind altered) = table_is_plain table × (is_name column ≡ true) × altered_is_plain altered
 
 abbrev pub is_no_lf : ℕ → Bool
 is_no_lf b = not (b == 10)

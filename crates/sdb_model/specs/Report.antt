@@ -5,12 +5,15 @@ use Rattle.std.specs.Fmt.{signed_decimal}
 use Rattle.sdb_types.specs.Contents.{state_number}
 use Rattle.sdb_types.specs.Order.{table_text}
 use Rattle.sdb_types.specs.TxId.{id_text}
-use Rattle.sdb_model.specs.Types.{Condition, Record, Reply, Request, Value}
+use Rattle.sdb_schema.specs.Kinds.{kind_text}
+use Rattle.sdb_model.specs.Types.{Condition, Kind, Record, Reply, Request, TableName, Value}
 use Rattle.sdb_types.specs.declared.record.Condition.TheVariants.{Absent, Version}
 use Rattle.sdb_types.specs.declared.record.Reply.TheVariants as reply
 use Rattle.sdb_types.specs.declared.record.Request.TheVariants as ask
 use Rattle.sdb_model.specs.Texts.{key_text_of, span_text_of, record_text_of, row_text_of, answer_text_of}
 use Rattle.sdb_model.specs.declared.answer.Answer.{Answer}
+use Rattle.sdb_model.specs.declared.event.Altered.{Altered}
+use Rattle.sdb_model.specs.declared.event.Altered.TheVariants as altered
 use Rattle.sdb_model.specs.declared.event.Event.{Event}
 use Rattle.sdb_model.specs.declared.event.Event.TheVariants as event
 use Rattle.sdb_model.specs.declared.event.How.{How}
@@ -82,6 +85,15 @@ came_text_of how reply given = codes " " ++ how_text_of how ++ codes " " ++ repl
 abbrev pub landed_text_of : ℕ → List ℕ → Request → List ℕ
 landed_text_of number store request = codes "land " ++ decimal number ++ codes " " ++ store ++ codes " " ++ request_text_of request
 
+abbrev pub altered_text_of : Altered → List ℕ
+altered_text_of altered.Done = codes "done"
+altered_text_of altered.Open = codes "open"
+altered_text_of (altered.Refused k) = codes "refused " ++ decimal k
+
+-- the column that was to be added to a table, and what became of that
+abbrev pub alter_text_of : TableName → List ℕ → Kind → Altered → List ℕ
+alter_text_of table column kind altered = codes "alter " ++ table_text table ++ codes " " ++ column ++ codes " " ++ kind_text kind ++ codes " " ++ altered_text_of altered
+
 -- the line of an event, but for its number
 abbrev pub event_text_of : Event → List ℕ
 event_text_of (event.Take client text given) = take_text_of client text given
@@ -90,6 +102,7 @@ event_text_of (event.Stop client) = codes "stop " ++ decimal client
 event_text_of (event.Clock moment) = codes "clock " ++ signed_decimal moment
 event_text_of (event.Idle client) = codes "idle " ++ decimal client
 event_text_of (event.Land number store request how reply) = landed_text_of number store request ++ effect_text_of how reply
+event_text_of (event.Alter table column kind altered) = alter_text_of table column kind altered
 
 ---- lines
 

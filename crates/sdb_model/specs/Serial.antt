@@ -1,12 +1,15 @@
--- Serializability: whole transactions, run one after the other on plain tables in the order of their points, give the answers
--- that clients got and the final rows.
-use Rattle.std.specs.Prelude.{◌≡◌, ◌⊎◌, ℕ, ◌<◌, ◌^◌, if◌then◌else◌, List, [], ◌∷◌, ◌++◌, map, filter, length, Option, Some, None, is_some, Contains}
+-- Serializability: whole transactions, run one after the other on plain tables in the order of their points, with each column added in its
+-- place among them, give the answers that clients got and the final rows.
+use Rattle.std.specs.Prelude.{◌≡◌, ◌⊎◌, ℕ, ◌<◌, ◌^◌, if◌then◌else◌, List, [], ◌∷◌, ◌++◌, map, filter, drop, take, Option, Some, None, is_some, Contains}
+use Rattle.std.specs.List.{filter_map}
 use Rattle.std.specs.Option.{option_and_then}
 use Rattle.std.specs.FinMap.{get, empty}
-use Rattle.sdb_model.specs.Types.{Key, Place, Table, TxId}
+use Rattle.sdb_model.specs.Types.{Column, Key, Place, Table, TableName, TxId}
 use Rattle.sdb_model.specs.declared.answer.Answer.{Answer}
 use Rattle.sdb_model.specs.declared.answer.Answer.TheVariants as answer
+use Rattle.sdb_model.specs.declared.event.Altered.TheVariants as altered
 use Rattle.sdb_model.specs.declared.event.Event.{Event}
+use Rattle.sdb_model.specs.declared.event.Event.TheVariants as event
 use Rattle.sdb_model.specs.declared.event.Point.{Point}
 use Rattle.sdb_model.specs.declared.event.TableDump.{TableDump}
 use Rattle.sdb_model.specs.declared.event.Outcome.{Outcome}
@@ -14,7 +17,8 @@ use Rattle.sdb_model.specs.declared.script.Script.{Script}
 use Rattle.sdb_model.specs.declared.statement.Statement.{Statement}
 use Rattle.sdb_model.specs.Sql.{Reads}
 use Rattle.sdb_model.specs.Exec.{Tables, exec, find_table, all_rows, is_row_of, sorted, projected}
-use Rattle.sdb_model.specs.Events.{StoreContents, IsTrace, catalog_at}
+use Rattle.sdb_model.specs.Catalogs.{catalog_after, with_added}
+use Rattle.sdb_model.specs.Events.{StoreContents, IsTrace}
 use Rattle.sdb_model.specs.Images.{row_at}
 use Rattle.sdb_model.specs.Follows.{Follows}
 use Rattle.sdb_model.specs.Transactions.{Executed, answered, statements_by, begun, client_of, commit_of, body, Recorded, IsOrder}
@@ -26,10 +30,17 @@ abbrev pub run_body : List Table → List Statement → Tables → List Answer �
 run_body catalog [] d = ([], d)
 run_body catalog (s ∷ ss) d = ((exec catalog s d).0 ∷ (run_body catalog ss (exec catalog s d).1).0, (run_body catalog ss (exec catalog s d).1).1)
 
--- Bodies run whole, one after the other: the answers of each, and the last tables.
-abbrev pub serial : List Table → List (List Statement) → Tables → List (List Answer) × Tables
+-- A step of a serial run: a body, or a column that is added to a table.
+pub data Step : Type 0 where
+  Body : (statements : List Statement) → Step
+  Added : (table : TableName) (column : Column) → Step
+
+-- Steps one after the other: the answers of each body, run whole, and the last tables. A column is added to the catalog, and changes no row:
+-- a row that has no value there is NULL there.
+abbrev pub serial : List Table → List Step → Tables → List (List Answer) × Tables
 serial catalog [] d = ([], d)
-serial catalog (b ∷ bs) d = ((run_body catalog b d).0 ∷ (serial catalog bs (run_body catalog b d).1).0, (serial catalog bs (run_body catalog b d).1).1)
+serial catalog (Body b ∷ ss) d = ((run_body catalog b d).0 ∷ (serial catalog ss (run_body catalog b d).1).0, (serial catalog ss (run_body catalog b d).1).1)
+serial catalog (Added table c ∷ ss) d = serial (with_added catalog table c) ss d
 
 ---- rows that are printed
 
@@ -55,12 +66,20 @@ AreRead [] (s ∷ ss) = ⊥
 AreRead (x ∷ xs) [] = ⊥
 AreRead (x ∷ xs) (s ∷ ss) = Reads x.text s × AreRead xs ss
 
--- the bodies of the transactions of an order, as statements
-abbrev pub AreBodies : List Event → List Point → List (List Statement) → Type 0
-AreBodies events [] [] = Unit {0}
-AreBodies events [] (b ∷ bs) = ⊥
-AreBodies events (p ∷ ps) [] = ⊥
-AreBodies events (p ∷ ps) (b ∷ bs) = AreRead (body events p.id) b × AreBodies events ps bs
+-- the column that an event added
+abbrev pub addition : Event → Option Step
+addition (event.Alter table column kind altered.Done) = Some (Added table (record { name = column; kind = kind }))
+addition e = None
+
+abbrev pub additions : List Event → List Step
+additions events = filter_map addition events
+
+-- The steps of a run after its first n events: the bodies of the transactions of an order, as statements, each at its point, and the columns
+-- that were added, each at its event.
+abbrev pub AreSteps : List Event → ℕ → List Point → List Step → Type 0
+AreSteps events n [] steps = steps ≡ additions (drop n events)
+AreSteps events n (p ∷ ps) steps =
+    (b : List Statement) × (later : List Step) × (steps ≡ additions (drop n (take p.event events)) ++ Body b ∷ later) × AreRead (body events p.id) b × AreSteps events p.event ps later
 
 -- the answers that a transaction's client was given to the statements of its body
 abbrev pub answers_given : List Event → Point → List (Option Answer)
@@ -83,14 +102,15 @@ abbrev pub CommittedIsOwned : List Place → List Event → List StoreContents �
 CommittedIsOwned places events closing = (client : ℕ) (s : Executed) → Contains (statements_by client events) s → s.answer ≡ Some answer.Committed → IsRecordedCommit places events closing client s
 
 -- The answers and rows of a run are those of its recorded transactions, run whole in the order of their points from empty
--- tables; the rows are the committed images of what the stores hold in the end; each statement that is answered Committed is the
--- COMMIT of a recorded transaction; and the COMMIT of each of these is answered Committed, Unknown or not at all.
+-- tables, with the columns that were added; the rows are the committed images of what the stores hold in the end, with all columns of the
+-- last catalog; each statement that is answered Committed is the COMMIT of a recorded transaction; and the COMMIT of each of these is
+-- answered Committed, Unknown or not at all.
 pub record IsSerial (catalog : List Table) (places : List Place) (events : List Event) (closing : List StoreContents) (order : List Point) (tables : List TableDump) : Type 0 where
-  pub bodies : List (List Statement)
-  pub read : AreBodies events order bodies
-  pub answers : map (answers_given events) order ≡ map (map Some) (serial catalog bodies empty).0
-  pub printed : tables ≡ dumps_of (catalog_at catalog events (length events)) (serial catalog bodies empty).1
-  pub images : AreImages catalog places closing (serial catalog bodies empty).1
+  pub steps : List Step
+  pub read : AreSteps events 0 order steps
+  pub answers : map (answers_given events) order ≡ map (map Some) (serial catalog steps empty).0
+  pub printed : tables ≡ dumps_of (catalog_after catalog events) (serial catalog steps empty).1
+  pub images : AreImages catalog places closing (serial catalog steps empty).1
   pub committed : (id : TxId) → id.0 < 2 ^ 128 → commit_answer events id ≡ Some answer.Committed → Recorded places closing id
   pub owned : CommittedIsOwned places events closing
   pub known : (id : TxId) → id.0 < 2 ^ 128 → Recorded places closing id → (commit_answer events id ≡ Some answer.Committed) ⊎ (commit_answer events id ≡ Some (answer.Unknown id)) ⊎ (commit_answer events id ≡ None)

@@ -7,6 +7,7 @@ pub use Rattle.sdb_record.specs.declared.coordinator.Decided.{Decided}
 pub use Rattle.sdb_record.specs.declared.coordinator.Decision.{Decision}
 pub use Rattle.sdb_record.specs.declared.roll.Back.{Back}
 pub use Rattle.sdb_record.specs.declared.write.Keyed.{Keyed}
+pub use Rattle.sdb_schema.specs.declared.table.Column.{Column}
 pub use Rattle.sdb_schema.specs.declared.table.Kind.{Kind}
 pub use Rattle.sdb_schema.specs.declared.table.Order.{Order}
 pub use Rattle.sdb_schema.specs.declared.table.Table.{Table}

@@ -2,6 +2,7 @@
 ghost use Rattle.std.specs.Prelude.{◌≡◌, IfOk};
 
 use crate::answer::{Answer, Rows};
+use sdb_schema::Kind;
 use sdb_types::{Duplicate, Name, NoMemory, Reply, Request, Seq, TableName, TxId, Txt};
 
 /// What became of a call and its reply.
@@ -19,8 +20,19 @@ pub enum How {
     Broken,
 }
 
-/// One step of one client, or a stop, a move of the clock, an idle step or the landing of a late request. Clients are numbered
-/// from 1.
+/// What became of a column that was to be added to a table.
+#[derive(Clone, Copy, Debug, PartialEq, Eq)]
+pub enum Altered {
+    /// The table has the column from then on.
+    Done,
+    /// A client that isn't stopped has a transaction open or runs VACUUM.
+    Open,
+    /// The catalog refuses it, for the cause of this number.
+    Refused(u8),
+}
+
+/// One step of one client, or a stop, a move of the clock, an idle step, the landing of a late request or a column that is to be added
+/// to a table. Clients are numbered from 1.
 #[derive(Debug, PartialEq, Eq)]
 pub enum Event {
     /// A client takes a statement, answered at once or not.
@@ -35,6 +47,8 @@ pub enum Event {
     Idle(u32),
     /// The request of the delayed call of this number, from 1, takes effect on the store of this name. Nobody gets the reply.
     Land(u32, Name, Request, How, Reply),
+    /// A column of this name and kind is to be added to a table.
+    Alter(TableName, Name, Kind, Altered),
 }
 
 // By hand: each drop is then one call, where a derived one is written out at each exit, with a call for each field.
@@ -47,6 +61,7 @@ impl Drop for Event {
             Event::Clock(_) => {}
             Event::Idle(_) => {}
             Event::Land(_, _, _, _, _) => {}
+            Event::Alter(_, _, _, _) => {}
         }
     }
 }
@@ -102,6 +117,12 @@ impl Duplicate for Event {
                 request.copy()?,
                 *how,
                 reply.copy()?,
+            )),
+            Event::Alter(table, column, kind, altered) => Ok(Event::Alter(
+                table.copy()?,
+                column.copy()?,
+                *kind,
+                *altered,
             )),
         }
     }

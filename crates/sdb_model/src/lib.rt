@@ -10,8 +10,8 @@ mod text;
 mod token;
 
 pub use answer::{Answer, Refusal, Rows};
-pub use event::{Event, Events, How, Outcome, Point, Points, TableDump, TableRows};
-pub use report::report_text;
+pub use event::{Altered, Event, Events, How, Outcome, Point, Points, TableDump, TableRows};
+pub use report::{put_alter, report_text};
 pub use script::{Act, Clients, Move, Moves, Place, Places, Script, ScriptClient, Texts, Which};
 pub use statement::{
     Comparison, Delete, Insert, Mention, Mentions, Select, Sets, Statement, Test, Tests, Update,

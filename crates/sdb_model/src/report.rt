@@ -2,13 +2,14 @@
 ghost use Rattle.std.specs.Prelude.{◌≡◌, ◌++◌, OnOk, IfOk, decimal};
 ghost use Rattle.std.specs.List.{flat_map};
 ghost use Rattle.std.specs.String.{string_bytes};
-ghost use Rattle.sdb_model.specs.Report.{given_text_of, condition_text_of, request_text_of, how_text_of, found_text_of, records_text_of, reply_text_of, take_text_of, asked_text_of, came_text_of, effect_text_of, landed_text_of, event_text_of, event_line, event_lines, point_line, row_line, table_lines, heading, events_text_of, order_text_of, tables_text_of, report_text_of};
+ghost use Rattle.sdb_model.specs.Report.{given_text_of, condition_text_of, request_text_of, how_text_of, found_text_of, records_text_of, reply_text_of, take_text_of, asked_text_of, came_text_of, effect_text_of, landed_text_of, altered_text_of, alter_text_of, event_text_of, event_line, event_lines, point_line, row_line, table_lines, heading, events_text_of, order_text_of, tables_text_of, report_text_of};
 
 use crate::text::{
     put_answer, put_id, put_key, put_number, put_record, put_row, put_signed, put_span, put_table,
 };
-use crate::{Answer, Event, Events, How, Outcome, Point, Points, TableDump, TableRows};
-use sdb_types::{Condition, Name, NoMemory, Record, Reply, Request, Txt, Values};
+use crate::{Altered, Answer, Event, Events, How, Outcome, Point, Points, TableDump, TableRows};
+use sdb_schema::Kind;
+use sdb_types::{Condition, Name, NoMemory, Record, Reply, Request, TableName, Txt, Values};
 use std::alloc::Global;
 
 /// Adds an answer's text, or `-` where there is none.
@@ -196,6 +197,40 @@ fn put_with_client(out: &mut String, word: &str, client: u32) -> Result<(), NoMe
     put_number(out, u64::from(client))
 }
 
+fn put_altered(out: &mut String, altered: Altered) -> Result<(), NoMemory>
+    ensures { OnOk result (string_bytes out.new ≡ string_bytes out.old ++ altered_text_of altered) }
+{
+    match altered {
+        Altered::Done => out.push_str("done")?,
+        Altered::Open => out.push_str("open")?,
+        Altered::Refused(number) => {
+            out.push_str("refused ")?;
+            put_number(out, u64::from(number))?;
+        }
+    }
+    Ok(())
+}
+
+/// Adds the line of a column that is to be added to a table, and what became of that.
+pub fn put_alter(
+    out: &mut String,
+    table: &TableName,
+    column: &Name,
+    kind: Kind,
+    altered: Altered,
+) -> Result<(), NoMemory>
+    ensures { OnOk result (string_bytes out.new ≡ string_bytes out.old ++ alter_text_of table.now column.now kind altered) }
+{
+    out.push_str("alter ")?;
+    put_table(out, table)?;
+    out.push_str(" ")?;
+    out.push_str(column.as_str())?;
+    out.push_str(" ")?;
+    out.push_str(kind.as_str())?;
+    out.push_str(" ")?;
+    put_altered(out, altered)
+}
+
 fn put_event(out: &mut String, event: &Event) -> Result<(), NoMemory>
     ensures { OnOk result (string_bytes out.new ≡ string_bytes out.old ++ event_text_of event.now) }
 {
@@ -214,6 +249,9 @@ fn put_event(out: &mut String, event: &Event) -> Result<(), NoMemory>
         Event::Land(number, store, request, how, reply) => {
             put_landed(out, *number, store, request)?;
             put_effect(out, *how, reply)
+        }
+        Event::Alter(table, column, kind, altered) => {
+            put_alter(out, table, column, *kind, *altered)
         }
     }
 }

@@ -1,9 +1,9 @@
 //! Scripts: clients with their statements, and the moves that fix how their steps interleave.
 ghost use Rattle.std.specs.Prelude.{◌≡◌, IfOk};
 
-use sdb_schema::Catalog;
+use sdb_schema::{Catalog, Kind};
 pub use sdb_types::Place;
-use sdb_types::{Duplicate, Name, NoMemory, Seq, Txt};
+use sdb_types::{Duplicate, Name, NoMemory, Seq, TableName, Txt};
 
 pub type Places = Seq<Place>;
 
@@ -19,7 +19,7 @@ pub struct ScriptClient {
 pub type Clients = Seq<ScriptClient>;
 
 /// One step that a script asks for. A client is named by its number, from 1.
-#[derive(Clone, Copy, Debug, PartialEq, Eq)]
+#[derive(Debug, PartialEq, Eq)]
 pub enum Act {
     Step(u32),
     /// A step whose call is made and whose reply is lost.
@@ -32,9 +32,28 @@ pub enum Act {
     Land(u32),
     Stop(u32),
     Clock(i64),
+    /// A column of this name and kind is added to a table, where no client that isn't stopped has a transaction open or runs VACUUM,
+    /// and the catalog takes it.
+    Alter(TableName, Name, Kind),
 }
 
-#[derive(Clone, Copy, Debug, PartialEq, Eq)]
+// By hand: each drop is then one call, where a derived one is written out at each exit, with a call for each field.
+impl Drop for Act {
+    fn drop(self) {
+        match self {
+            Act::Step(_) => {}
+            Act::Lose(_) => {}
+            Act::Discard(_) => {}
+            Act::Delay(_) => {}
+            Act::Land(_) => {}
+            Act::Stop(_) => {}
+            Act::Clock(_) => {}
+            Act::Alter(_, _, _) => {}
+        }
+    }
+}
+
+#[derive(Debug, Drop, PartialEq, Eq)]
 pub enum Move {
     Act(Act),
     /// So many steps of a client.
@@ -74,13 +93,28 @@ impl Duplicate for ScriptClient {
 
 impl Duplicate for Act {
     fn copy(&self) -> Result<Act, NoMemory> {
-        Ok(*self)
+        match self {
+            Act::Step(client) => Ok(Act::Step(*client)),
+            Act::Lose(client) => Ok(Act::Lose(*client)),
+            Act::Discard(client) => Ok(Act::Discard(*client)),
+            Act::Delay(client) => Ok(Act::Delay(*client)),
+            Act::Land(number) => Ok(Act::Land(*number)),
+            Act::Stop(client) => Ok(Act::Stop(*client)),
+            Act::Clock(moment) => Ok(Act::Clock(*moment)),
+            Act::Alter(table, column, kind) => {
+                Ok(Act::Alter(table.copy()?, column.copy()?, *kind))
+            }
+        }
     }
 }
 
 impl Duplicate for Move {
     fn copy(&self) -> Result<Move, NoMemory> {
-        Ok(*self)
+        match self {
+            Move::Act(act) => Ok(Move::Act(act.copy()?)),
+            Move::Repeat(client, times) => Ok(Move::Repeat(*client, *times)),
+            Move::Rest => Ok(Move::Rest),
+        }
     }
 }
 

@@ -1,23 +1,28 @@
 -- Columns added to tables.
-use Rattle.std.proofs.Common.{◌≡◌, ℕ, suc, ◌<◌, List, [], ◌∷◌, length, Bool, true, false, not, ◌&&◌, ◌||◌, cond, Option, Some, None, Result, refl, sym, ap, ◌∙◌, arith, slice_set}
+use Rattle.std.proofs.Common.{◌≡◌, ℕ, suc, ◌<◌, List, [], ◌∷◌, length, Bool, true, false, not, ◌&&◌, ◌||◌, cond, Option, Some, None, Result, refl, sym, ap, subst, ◌∙◌, arith, slice_set}
 use Rattle.std.specs.Prelude.{find, take_while, nat_le, nat_lt, is_ok}
-use Rattle.std.specs.List.{list_all}
-use Rattle.std.specs.Option.{option_map}
+use Rattle.std.specs.List.{list_all, list_any}
+use Rattle.std.specs.Option.{option_map, option_map_or}
 use Rattle.std.specs.Ordering.{is_lt, is_eq, ordering_reverse}
 use Rattle.std.proofs.lemmas.Bool.Decides.{nat_tests}
 use Rattle.std.proofs.lemmas.List.{length-map}
+use Rattle.sdb_types.specs.declared.key.Key.{Key}
 use Rattle.sdb_types.specs.declared.key.TableName.{TableName}
+use Rattle.sdb_types.specs.declared.pair.Pair.{Pair}
+use Rattle.sdb_types.specs.declared.value.Value.{Value}
 use Rattle.sdb_types.specs.Exact.{equal_of}
 use Rattle.sdb_types.specs.Identifier.{is_name, is_identifier}
 use Rattle.sdb_types.specs.Order.{name_cmp, table_cmp}
-use Rattle.sdb_types.proofs.Public.{and_both, and_first, and_second, less_of, name_total, none_some, or_neither, some_is, table_exact, table_total, one_more}
+use Rattle.sdb_types.proofs.Public.{and_both, and_first, and_second, clash, less_of, name_exact, name_total, none_some, or_neither, some_is, table_exact, table_total, one_more}
 use Rattle.sdb_record.specs.Names.{same_name}
 use Rattle.sdb_record.specs.Parts.{is_column_name}
 use Rattle.sdb_schema.specs.declared.table.Column.{Column}
+use Rattle.sdb_schema.specs.declared.table.Kind.{Kind}
 use Rattle.sdb_schema.specs.declared.table.Table.{Table}
 use Rattle.sdb_schema.specs.declared.make.TableRefused.{TableRefused}
-use Rattle.sdb_schema.specs.Table.{checked_table, first_listed_twice, first_repeated, first_reserved, first_unknown, has_column, is_above_column, is_reserved, is_table, key_names, limit_passed, next_repeats, none_of, put_column, refuse, rises as columns_rise}
+use Rattle.sdb_schema.specs.Table.{checked_table, first_listed_twice, first_repeated, first_reserved, first_unknown, has_column, is_above_column, is_key_column, is_reserved, is_table, key_names, limit_passed, next_repeats, none_of, order_names, put_column, refuse, rises as columns_rise}
 use Rattle.sdb_schema.specs.Catalog.{has_table, is_above_name, is_called, is_catalog, rises, table_named}
+use Rattle.sdb_schema.specs.Rows.{are_values_of, fits_table, is_in_range, is_of_kind, is_stored_in, is_value_of}
 use Rattle.sdb_schema.specs.Added.{column_refused_by, grown, grown_if, with_column}
 use Rattle.sdb_schema.proofs.CatalogLaws.{above-of}
 use Rattle.sdb_schema.proofs.ColumnOrder.{all-put, below}
@@ -173,6 +178,71 @@ grown_is_table t c h allowed short named =
     (and_both (list_all (λ (d : Column). is_column_name d.name) (put_column c t.columns)) _
     (all-put (λ (d : Column). is_column_name d.name) c t.columns own (and_first (list_all (λ (d : Column). is_column_name d.name) t.columns) (is_ok (checked_table t)) rest))
     (checked_still t c up parts.1 parts.2 (and_second (list_all (λ (d : Column). is_column_name d.name) t.columns) (is_ok (checked_table t)) rest)))
+
+-- the table had no column of that name
+pub new_column : (t : Table) (c : Column) → column_refused_by t c ≡ None → has_column t.columns c.name ≡ false
+new_column t c allowed = (allowed_so (has_column t.columns c.name) (is_reserved c.name) (nat_lt (length t.columns) 64) allowed).0
+
+---- rows
+
+any_found : {A : Type 0} (p : A → Bool) (x : A) (xs : List A) → find p xs ≡ Some x → list_any p xs ≡ true
+any_found p x [] h = none_some x h
+any_found p x (y ∷ ys) h =
+    elim (p y) as (λ b. cond b (Some y) (find p ys) ≡ Some x → (b || list_any p ys) ≡ true) [
+      | true ↦ λ k. refl
+      | false ↦ λ k. any_found p x ys k
+    ] h
+
+-- a column that is found is found with another column before or after it
+found_still : (c : Column) (ds : List Column) (name : List ℕ) (x : Column) → has_column ds c.name ≡ false → find (λ (d : Column). same_name d.name name) ds ≡ Some x → find (λ (d : Column). same_name d.name name) (put_column c ds) ≡ Some x
+found_still c [] name x none h = none_some x h
+found_still c (d ∷ ds) name x none h =
+    elim (below c d) as (λ b. find named (cond b (d ∷ put_column c ds) (c ∷ d ∷ ds)) ≡ Some x) [
+      | true ↦ elim (same_name d.name name) as (λ b. cond b (Some d) (find named ds) ≡ Some x → cond b (Some d) (find named (put_column c ds)) ≡ Some x) [
+        | true ↦ λ k. k
+        | false ↦ λ k. found_still c ds name x (or_neither (same_name d.name c.name) (has_column ds c.name) none).1 k
+      ] h
+      | false ↦ elim (same_name c.name name) as (λ b. same_name c.name name ≡ b → cond b (Some c) (find named (d ∷ ds)) ≡ Some x) [
+        | true ↦ λ q. clash (sym (any_found (λ (e : Column). same_name e.name c.name) x (d ∷ ds) (subst (λ (n : List ℕ). find (λ (e : Column). same_name e.name n) (d ∷ ds) ≡ Some x) (sym (name_exact c.name name (equal_of (name_cmp c.name name) q))) h)) ∙ none)
+        | false ↦ λ q. h
+      ] refl
+    ]
+  where
+    named : Column → Bool
+    named e = same_name e.name name
+
+value_still : (c : Column) (ds : List Column) (name : List ℕ) (v : Value) → has_column ds c.name ≡ false → is_value_of ds name v ≡ true → is_value_of (put_column c ds) name v ≡ true
+value_still c ds name v none h = by (find (λ (d : Column). same_name d.name name) ds) refl h
+  where
+    by : (o : Option Column) → find (λ (d : Column). same_name d.name name) ds ≡ o → (option_map_or (λ (k : Kind). is_of_kind k v) (option_map (λ (d : Column). d.kind) o) false && is_in_range v) ≡ true → is_value_of (put_column c ds) name v ≡ true
+    by None e k = absurd (cc (k))
+    by (Some x) e k = ap (λ (o : Option Column). option_map_or (λ (k : Kind). is_of_kind k v) (option_map (λ (d : Column). d.kind) o) false && is_in_range v) (found_still c ds name x none e) ∙ k
+
+values_still : (c : Column) (ds : List Column) (names : List (List ℕ)) (vs : List Value) → has_column ds c.name ≡ false → are_values_of ds names vs ≡ true → are_values_of (put_column c ds) names vs ≡ true
+values_still c ds [] [] none h = refl
+values_still c ds [] (v ∷ vs) none h = h
+values_still c ds (n ∷ ns) [] none h = h
+values_still c ds (n ∷ ns) (v ∷ vs) none h =
+    and_both (is_value_of (put_column c ds) n v) (are_values_of (put_column c ds) ns vs) (value_still c ds n v none (and_first (is_value_of ds n v) (are_values_of ds ns vs) h)) (values_still c ds ns vs none (and_second (is_value_of ds n v) (are_values_of ds ns vs) h))
+
+stored_still : (t : Table) (c : Column) (ps : List Pair) → has_column t.columns c.name ≡ false → list_all (is_stored_in t) ps ≡ true → list_all (is_stored_in (grown t c)) ps ≡ true
+stored_still t c [] none h = refl
+stored_still t c (p ∷ ps) none h =
+    let first = and_first (is_stored_in t p) (list_all (is_stored_in t) ps) h in
+    and_both (is_stored_in (grown t c) p) (list_all (is_stored_in (grown t c)) ps)
+    (and_both (not (is_key_column t p.name)) (is_value_of (put_column c t.columns) p.name p.value) (and_first (not (is_key_column t p.name)) (is_value_of t.columns p.name p.value) first) (value_still c t.columns p.name p.value none (and_second (not (is_key_column t p.name)) (is_value_of t.columns p.name p.value) first)))
+    (stored_still t c ps none (and_second (is_stored_in t p) (list_all (is_stored_in t) ps) h))
+
+-- A row that fits a table fits it with a column more.
+pub fits_still : (t : Table) (c : Column) (key : Key) (columns : List Pair) → has_column t.columns c.name ≡ false → fits_table t key columns ≡ true → fits_table (grown t c) key columns ≡ true
+fits_still t c key columns none h =
+    let P = are_values_of t.columns t.partition key.partition in
+    let C = are_values_of t.columns (order_names t.clustering) key.clustering in
+    let rest = and_second P (C && list_all (is_stored_in t) columns) h in
+    and_both (are_values_of (put_column c t.columns) t.partition key.partition) (are_values_of (put_column c t.columns) (order_names t.clustering) key.clustering && list_all (is_stored_in (grown t c)) columns)
+    (values_still c t.columns t.partition key.partition none (and_first P (C && list_all (is_stored_in t) columns) h))
+    (and_both (are_values_of (put_column c t.columns) (order_names t.clustering) key.clustering) (list_all (is_stored_in (grown t c)) columns)
+    (values_still c t.columns (order_names t.clustering) key.clustering none (and_first C (list_all (is_stored_in t) columns) rest)) (stored_still t c columns none (and_second C (list_all (is_stored_in t) columns) rest)))
 
 ---- the catalog
 

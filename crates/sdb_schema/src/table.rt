@@ -13,6 +13,24 @@ pub enum Kind {
     Blob,
 }
 
+impl Kind {
+    ghost use Rattle.std.specs.Prelude.{◌≡◌};
+    ghost use Rattle.sdb_schema.specs.Kinds.{kind_text};
+
+    /// The word of the kind, in upper case. Takes no memory.
+    pub fn as_str(self) -> &'static str
+        ensures { result.now ≡ kind_text self }
+    {
+        match self {
+            Kind::Boolean => "BOOLEAN",
+            Kind::Int => "INT",
+            Kind::BigInt => "BIGINT",
+            Kind::Text => "TEXT",
+            Kind::Blob => "BLOB",
+        }
+    }
+}
+
 /// Which way a clustering column is ordered.
 #[derive(Clone, Copy, Debug, PartialEq, Eq)]
 pub enum Direction {
