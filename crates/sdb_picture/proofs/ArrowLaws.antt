@@ -92,6 +92,7 @@ groups_have_calls lanes events row (event.Call client store q how r given ∷ es
     (groups_have_calls lanes events (row + 1) es))
 groups_have_calls lanes events row (event.Stop client ∷ es) = groups_have_calls lanes events (row + 1) es
 groups_have_calls lanes events row (event.Clock moment ∷ es) = groups_have_calls lanes events (row + 1) es
+groups_have_calls lanes events row (event.Alter table column kind altered ∷ es) = groups_have_calls lanes events (row + 1) es
 groups_have_calls lanes events row (event.Idle client ∷ es) =
     skipped _ _ (no_idle_mark arrow_of arrow_deaf lanes row client) (groups_have_calls lanes events (row + 1) es)
 groups_have_calls lanes events row (event.Land number store q how r ∷ es) =
@@ -121,6 +122,7 @@ groups_have_texts lanes events row (event.Call client store q how r given ∷ es
     (groups_have_texts lanes events (row + 1) es)
 groups_have_texts lanes events row (event.Stop client ∷ es) = groups_have_texts lanes events (row + 1) es
 groups_have_texts lanes events row (event.Clock moment ∷ es) = groups_have_texts lanes events (row + 1) es
+groups_have_texts lanes events row (event.Alter table column kind altered ∷ es) = groups_have_texts lanes events (row + 1) es
 groups_have_texts lanes events row (event.Idle client ∷ es) =
     skipped _ _ (no_idle_mark statement_of statement_deaf lanes row client) (groups_have_texts lanes events (row + 1) es)
 groups_have_texts lanes events row (event.Land number store q how r ∷ es) =
@@ -150,6 +152,7 @@ groups_have_answers lanes events row (event.Call client store q how r given ∷ 
     (groups_have_answers lanes events (row + 1) es)
 groups_have_answers lanes events row (event.Stop client ∷ es) = groups_have_answers lanes events (row + 1) es
 groups_have_answers lanes events row (event.Clock moment ∷ es) = groups_have_answers lanes events (row + 1) es
+groups_have_answers lanes events row (event.Alter table column kind altered ∷ es) = groups_have_answers lanes events (row + 1) es
 groups_have_answers lanes events row (event.Idle client ∷ es) =
     skipped _ _ (no_idle_mark answer_of answer_deaf lanes row client) (groups_have_answers lanes events (row + 1) es)
 groups_have_answers lanes events row (event.Land number store q how r ∷ es) =
@@ -179,6 +182,7 @@ groups_have_landings lanes events row (event.Call client store q how r given ∷
     (groups_have_landings lanes events (row + 1) es)
 groups_have_landings lanes events row (event.Stop client ∷ es) = groups_have_landings lanes events (row + 1) es
 groups_have_landings lanes events row (event.Clock moment ∷ es) = groups_have_landings lanes events (row + 1) es
+groups_have_landings lanes events row (event.Alter table column kind altered ∷ es) = groups_have_landings lanes events (row + 1) es
 groups_have_landings lanes events row (event.Idle client ∷ es) =
     skipped _ _ (no_idle_mark landing_of landing_deaf lanes row client) (groups_have_landings lanes events (row + 1) es)
 groups_have_landings lanes events row (event.Land number store q how r ∷ es) =

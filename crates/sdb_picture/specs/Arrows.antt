@@ -42,6 +42,7 @@ calls_from lanes row (event.Stop client ∷ es) = calls_from lanes (row + 1) es
 calls_from lanes row (event.Clock moment ∷ es) = calls_from lanes (row + 1) es
 calls_from lanes row (event.Idle client ∷ es) = calls_from lanes (row + 1) es
 calls_from lanes row (event.Land number store request how reply ∷ es) = calls_from lanes (row + 1) es
+calls_from lanes row (event.Alter table column kind altered ∷ es) = calls_from lanes (row + 1) es
 
 ---- statements and answers
 
@@ -72,6 +73,7 @@ texts_from lanes row (event.Stop client ∷ es) = texts_from lanes (row + 1) es
 texts_from lanes row (event.Clock moment ∷ es) = texts_from lanes (row + 1) es
 texts_from lanes row (event.Idle client ∷ es) = texts_from lanes (row + 1) es
 texts_from lanes row (event.Land number store request how reply ∷ es) = texts_from lanes (row + 1) es
+texts_from lanes row (event.Alter table column kind altered ∷ es) = texts_from lanes (row + 1) es
 
 abbrev pub answer_of : Mark → Option Worded
 answer_of (Statement row client text) = None
@@ -99,6 +101,7 @@ answers_from lanes row (event.Stop client ∷ es) = answers_from lanes (row + 1)
 answers_from lanes row (event.Clock moment ∷ es) = answers_from lanes (row + 1) es
 answers_from lanes row (event.Idle client ∷ es) = answers_from lanes (row + 1) es
 answers_from lanes row (event.Land number store request how reply ∷ es) = answers_from lanes (row + 1) es
+answers_from lanes row (event.Alter table column kind altered ∷ es) = answers_from lanes (row + 1) es
 
 ---- landings
 
@@ -129,3 +132,4 @@ landings_from lanes row (event.Clock moment ∷ es) = landings_from lanes (row +
 landings_from lanes row (event.Idle client ∷ es) = landings_from lanes (row + 1) es
 landings_from lanes row (event.Land number store request how reply ∷ es) =
     record { row = row; store = store_lane lanes store; how = how } ∷ landings_from lanes (row + 1) es
+landings_from lanes row (event.Alter table column kind altered ∷ es) = landings_from lanes (row + 1) es

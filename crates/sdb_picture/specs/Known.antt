@@ -70,6 +70,7 @@ left_by store key k (event.Stop client) = k
 left_by store key k (event.Clock moment) = k
 left_by store key k (event.Idle client) = k
 left_by store key k (event.Land number at request how r) = written store key k at request how r
+left_by store key k (event.Alter table column kind altered) = k
 
 -- Nothing is there before the first event.
 abbrev pub known_after : Name → Key → List Event → Known
@@ -85,6 +86,7 @@ changes k store key (event.Clock moment) = false
 changes k store key (event.Idle client) = false
 changes k store key (event.Land number at request how r) =
     writes_at at request store key && may_change (effect_in k request how r)
+changes k store key (event.Alter table column kind altered) = false
 
 -- how many events come before the first that changes what is known of a record
 abbrev pub next_change : Known → Name → Key → List Event → Option ℕ

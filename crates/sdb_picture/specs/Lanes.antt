@@ -21,6 +21,7 @@ with_client_of clients (event.Stop client) = with_client clients client
 with_client_of clients (event.Clock moment) = clients
 with_client_of clients (event.Idle client) = if client == 0 then clients else with_client clients client
 with_client_of clients (event.Land number store request how reply) = clients
+with_client_of clients (event.Alter table column kind altered) = clients
 
 abbrev pub clients_of : List Event → List ℕ
 clients_of events = fold with_client_of [] events
@@ -37,6 +38,7 @@ with_store_of stores (event.Stop client) = stores
 with_store_of stores (event.Clock moment) = stores
 with_store_of stores (event.Idle client) = stores
 with_store_of stores (event.Land number store request how reply) = with_store stores store
+with_store_of stores (event.Alter table column kind altered) = stores
 
 abbrev pub stores_of : List Event → List Name
 stores_of events = fold with_store_of [] events
@@ -64,6 +66,7 @@ with_record_of records (event.Clock moment) = records
 with_record_of records (event.Idle client) = records
 with_record_of records (event.Land number store request how reply) =
     with_begun records store (band_begun request (effect_of how reply))
+with_record_of records (event.Alter table column kind altered) = records
 
 abbrev pub records_of : List Event → List Place
 records_of events = fold with_record_of [] events

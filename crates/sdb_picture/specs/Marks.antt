@@ -2,10 +2,10 @@
 use Rattle.std.specs.Prelude.{ℕ, ℤ, ◌+◌, ◌==◌, nat_lt, if◌then◌else◌, List, [], ◌∷◌, ◌++◌, length, take, codes, decimal, Option, Some, None}
 use Rattle.std.specs.Fmt.{signed_decimal}
 use Rattle.sdb_types.specs.TxId.{id_text}
-use Rattle.sdb_picture.specs.Types.{Answer, Condition, Event, How, Outcome, Point, Record, Reply, Request}
+use Rattle.sdb_picture.specs.Types.{Altered, Answer, Condition, Event, How, Kind, Outcome, Point, Record, Reply, Request, TableName}
 use Rattle.sdb_types.specs.declared.record.Reply.TheVariants as reply
 use Rattle.sdb_types.specs.declared.record.Request.TheVariants as ask
-use Rattle.sdb_model.specs.Report.{how_text_of}
+use Rattle.sdb_model.specs.Report.{alter_text_of, how_text_of}
 use Rattle.sdb_model.specs.Rows.{Name}
 use Rattle.sdb_model.specs.Texts.{answer_text_of, key_text_of, record_text_of, span_text_of}
 use Rattle.sdb_model.specs.declared.event.Event.TheVariants as event
@@ -32,7 +32,7 @@ pub data Mark : Type 0 where
   Decided : (row store : ℕ) → (verdict : Verdict) → (effect : Effect) → Mark
   -- a client that stops or idles
   Rested : (row client : ℕ) → (text : List ℕ) → Mark
-  -- a move of the clock, or a landing of a request that isn't in flight
+  -- a move of the clock, a landing of a request that isn't in flight, or a column that is to be added to a table
   Ticked : (row : ℕ) → (text : List ℕ) → Mark
   -- a late request that lands on a store, what became of it, what it asks and what came of it
   Landed : (row store : ℕ) → (how : How) → (asked came : List ℕ) → Mark
@@ -112,6 +112,9 @@ clock_text moment = codes "clock " ++ signed_decimal moment
 abbrev pub clock_marks : ℕ → ℤ → List Mark
 clock_marks row moment = Ticked row (clock_text moment) ∷ []
 
+abbrev pub alter_marks : ℕ → TableName → Name → Kind → Altered → List Mark
+alter_marks row table column kind altered = Ticked row (alter_text_of table column kind altered) ∷ []
+
 -- an idle step of a client, or of none, where a request was to land that isn't in flight
 abbrev pub idle_text : ℕ → List ℕ
 idle_text client = if client == 0 then codes "nothing lands" else codes "idles"
@@ -141,6 +144,7 @@ marks_of lanes past row (event.Clock moment) rest = clock_marks row moment
 marks_of lanes past row (event.Idle client) rest = idle_marks lanes row client
 marks_of lanes past row (event.Land number store request how reply) rest =
     landing_marks lanes row number store request how reply ++ effect_marks lanes past row store request how reply rest
+marks_of lanes past row (event.Alter table column kind altered) rest = alter_marks row table column kind altered
 
 -- What is drawn of one event, under a title with its texts in full.
 pub record Group : Type 0 where
@@ -148,7 +152,7 @@ pub record Group : Type 0 where
   pub title : List ℕ
   pub marks : List Mark
 
--- the label of an event: the statement that is accepted, or what a call or a landing asks for
+-- the label of an event: the statement that is accepted, what a call or a landing asks for, or the column that is to be added
 abbrev pub event_text : Event → List ℕ
 event_text (event.Take client text given) = text
 event_text (event.Call client store request how reply given) = asked_text request
@@ -156,6 +160,7 @@ event_text (event.Stop client) = codes "stops"
 event_text (event.Clock moment) = clock_text moment
 event_text (event.Idle client) = idle_text client
 event_text (event.Land number store request how reply) = landed_text number request
+event_text (event.Alter table column kind altered) = alter_text_of table column kind altered
 
 abbrev pub given_text : Option Answer → List ℕ
 given_text None = []
@@ -169,6 +174,7 @@ answered_text (event.Stop client) = []
 answered_text (event.Clock moment) = []
 answered_text (event.Idle client) = []
 answered_text (event.Land number store request how reply) = []
+answered_text (event.Alter table column kind altered) = []
 
 -- the title of the event in a row, with its number
 abbrev pub title_of : ℕ → Event → List ℕ

@@ -134,6 +134,7 @@ fn left_by<'a>(
         Event::Land(_, at, request, how, reply) => {
             written(sure, found, at, request, *how, reply, store, key)
         }
+        Event::Alter(_, _, _, _) => (sure, found),
     }
 }
 
@@ -167,6 +168,7 @@ fn changes(sure: bool, found: Option<&Record>, store: &Name, key: &Key, event: &
             writes_at(at, request, store, key)
                 && may_change(effect_in(sure, found, request, *how, reply))
         }
+        Event::Alter(_, _, _, _) => false,
     }
 }
 

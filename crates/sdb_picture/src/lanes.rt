@@ -126,6 +126,7 @@ fn add_client_of(clients: &mut Seq<u32>, event: &Event) -> Result<(), NoMemory>
             }
         }
         Event::Land(_, _, _, _, _) => Ok(()),
+        Event::Alter(_, _, _, _) => Ok(()),
     }
 }
 
@@ -158,6 +159,7 @@ fn add_store_of(stores: &mut Seq<Name>, event: &Event) -> Result<(), NoMemory>
         Event::Clock(_) => Ok(()),
         Event::Idle(_) => Ok(()),
         Event::Land(_, store, _, _, _) => add_store(stores, store),
+        Event::Alter(_, _, _, _) => Ok(()),
     }
 }
 
@@ -212,6 +214,7 @@ fn add_record_of(records: &mut Seq<Place>, event: &Event) -> Result<(), NoMemory
         Event::Land(_, store, request, how, reply) => {
             add_begun(records, store, band_begun(request, effect_of(*how, reply)))
         }
+        Event::Alter(_, _, _, _) => Ok(()),
     }
 }
 

@@ -10,10 +10,11 @@ use crate::drawing::{
     put_ticked,
 };
 use crate::fate::came_word;
-use crate::titles::{asked_text, clock_text, idle_text, landed_text};
+use crate::titles::{alter_text, asked_text, clock_text, idle_text, landed_text};
 use crate::{Effect, Lanes, effect_at, is_decision, may_change, rows_after, stage_of, verdict_of};
-use sdb_model::{Answer, Event, How, answer_text};
-use sdb_types::{Condition, Name, NoMemory, Record, Reply, Request};
+use sdb_model::{Altered, Answer, Event, How, answer_text};
+use sdb_schema::Kind;
+use sdb_types::{Condition, Name, NoMemory, Record, Reply, Request, TableName};
 use std::alloc::Global;
 
 fn put_answer_marks(
@@ -216,6 +217,21 @@ fn put_clock(out: &mut String, lanes: &Lanes, row: usize, moment: i64) -> Result
     put_ticked(out, row, text.as_str())
 }
 
+fn put_altered(
+    out: &mut String,
+    lanes: &Lanes,
+    row: usize,
+    table: &TableName,
+    column: &Name,
+    kind: Kind,
+    altered: Altered,
+) -> Result<(), NoMemory>
+    ensures { OnOk result (string_bytes out.new ≡ string_bytes out.old ++ flat_map (mark_svg lanes.now) (spec.alter_marks row table.now column.now kind altered)) }
+{
+    let text = alter_text(*out.allocator(), table, column, kind, altered)?;
+    put_ticked(out, row, text.as_str())
+}
+
 fn put_idle(out: &mut String, lanes: &Lanes, row: usize, client: u32) -> Result<(), NoMemory>
     ensures { OnOk result (string_bytes out.new ≡ string_bytes out.old ++ flat_map (mark_svg lanes.now) (spec.idle_marks lanes.now row client)) }
 {
@@ -261,6 +277,9 @@ pub fn put_marks(
         Event::Land(number, store, request, how, reply) => {
             put_landed(out, lanes, row, *number, store, request, *how, reply)?;
             put_effect(out, lanes, past, row, store, request, *how, reply, rest)
+        }
+        Event::Alter(table, column, kind, altered) => {
+            put_altered(out, lanes, row, table, column, *kind, *altered)
         }
     }
 }

@@ -1,10 +1,15 @@
 //! The texts of events: what is accepted, what a call or a landing asks for, and the answer.
 ghost use Rattle.std.specs.Prelude.{◌≡◌, ◌++◌, OnOk, IfOk};
 ghost use Rattle.std.specs.String.{string_bytes};
+ghost use Rattle.sdb_model.specs.Report.{alter_text_of};
 ghost use Rattle.sdb_picture.specs.Marks as spec;
 
-use sdb_model::{Answer, Event, put_answer, put_key, put_number, put_record, put_signed, put_span};
-use sdb_types::{NoMemory, Request};
+use sdb_model::{
+    Altered, Answer, Event, put_alter, put_answer, put_key, put_number, put_record, put_signed,
+    put_span,
+};
+use sdb_schema::Kind;
+use sdb_types::{Name, NoMemory, Request, TableName};
 use std::alloc::Global;
 use std::fmt::Write;
 
@@ -85,6 +90,21 @@ pub fn clock_text(alloc: Global, moment: i64) -> Result<String, NoMemory>
     Ok(text)
 }
 
+/// A column that is to be added to a table, and what became of that.
+pub fn alter_text(
+    alloc: Global,
+    table: &TableName,
+    column: &Name,
+    kind: Kind,
+    altered: Altered,
+) -> Result<String, NoMemory>
+    ensures { IfOk result (λ text. string_bytes text ≡ alter_text_of table.now column.now kind altered) }
+{
+    let mut text = String::new(alloc);
+    put_alter(&mut text, table, column, kind, altered)?;
+    Ok(text)
+}
+
 fn put_event_text(out: &mut String, event: &Event) -> Result<(), NoMemory>
     ensures { OnOk result (string_bytes out.new ≡ string_bytes out.old ++ spec.event_text event.now) }
 {
@@ -95,6 +115,9 @@ fn put_event_text(out: &mut String, event: &Event) -> Result<(), NoMemory>
         Event::Clock(moment) => put_clock(out, *moment)?,
         Event::Idle(client) => out.push_str(idle_text(*client))?,
         Event::Land(number, _, request, _, _) => put_landed(out, *number, request)?,
+        Event::Alter(table, column, kind, altered) => {
+            put_alter(out, table, column, *kind, *altered)?
+        }
     }
     Ok(())
 }

@@ -6,16 +6,19 @@ use Rattle.std.specs.Str.{is_utf8}
 use Rattle.std.proofs.lemmas.List.{append-nil}
 use Rattle.std.proofs.lemmas.Option.{same_Some, cond_some}
 use Rattle.std.proofs.lemmas.Str.{IsUtf8-from_is_utf8, is_utf8-from_IsUtf8}
+use Rattle.sdb_schema.specs.Kinds.{kind_text}
+use Rattle.sdb_types.specs.Order.{table_text}
 use Rattle.sdb_report.specs.Types.{Answer, Event, How, Reply, Request}
-use Rattle.sdb_model.specs.Plain.{request_is_plain, reply_is_plain, IsPlainGiven, HasPlainParts}
-use Rattle.sdb_model.specs.Report.{given_text_of, request_text_of, how_text_of, reply_text_of, asked_text_of, came_text_of, landed_text_of, effect_text_of, event_text_of}
+use Rattle.sdb_model.specs.Plain.{request_is_plain, reply_is_plain, altered_is_plain, IsPlainGiven, HasPlainParts}
+use Rattle.sdb_model.specs.Report.{given_text_of, request_text_of, how_text_of, reply_text_of, asked_text_of, came_text_of, landed_text_of, effect_text_of, altered_text_of, event_text_of}
 use Rattle.sdb_model.specs.declared.event.Event.TheVariants as event
 use Rattle.sdb_report.specs.FieldReading.{Read, case_of, after, text_of, name_at, integer_at}
-use Rattle.sdb_report.specs.Lines.{behind_space, given_at, request_at, how_at, landed_how_at, reply_at, client_at, is_empty, whole, take_of, came_at, asked_at, call_of, effect_at, land_of, event_of, numbered_event_of}
+use Rattle.sdb_report.specs.Lines.{behind_space, given_at, request_at, how_at, landed_how_at, reply_at, client_at, is_empty, whole, take_of, came_at, asked_at, call_of, effect_at, land_of, altered_at, column_at, alter_of, event_of, numbered_event_of}
 use Rattle.sdb_report.proofs.WordLaws.{case_some, join, Says, Sound, after_is, after_again, itself, IsName, name_sound, name_again}
 use Rattle.sdb_report.proofs.NumberLaws.{below_sound, below_again, IsLong, integer_sound, integer_again}
-use Rattle.sdb_report.proofs.AnswerLaws.{behind_sound, join_space, given_sound, given_again}
+use Rattle.sdb_report.proofs.AnswerLaws.{behind, behind_sound, join_space, given_sound, given_again}
 use Rattle.sdb_report.proofs.RequestLaws.{request_sound, request_again, any_how, how_sound, how_again, IsLandedHow, landed_how_sound, landed_how_again, reply_sound, reply_again, reply_last}
+use Rattle.sdb_report.proofs.AlterLaws.{altered_sound, altered_last, column_of, column_is, column_again}
 use Rattle.sdb_types.proofs.Public.{bind_some}
 use Rattle.sdb_types.specs.Options.{◌>>=◌}
 
@@ -146,6 +149,19 @@ land_is line rest e p h =
     let same : event.Land a.0.0.0 a.0.0.1 a.0.0.2 b.0.0 b.0.1 ≡ e = same_Some (event.Land a.0.0.0 a.0.0.1 a.0.0.2 b.0.0 b.0.1) e b.2 in
     subst (EventIs line) same (s.parts ∙ ap (λ (t : List ℕ). asked_of (codes "land ") a.0.0 ++ t) c.0, (s.fits.0, s.fits.1, s.fits.2, c.1.0, c.1.1))
 
+---- added columns
+
+alter_is : (line rest : List ℕ) (e : Event) → line ≡ codes "alter " ++ rest → alter_of rest ≡ Some e → EventIs line e
+unfolding alter_of
+alter_is line rest e p h =
+    let a = bind_some (column_at rest) (λ column. whole (behind_space altered_at column.1) >>= λ altered. Some (event.Alter column.0.0 column.0.1 column.0.2 altered)) e h in
+    let b = bind_some (whole (behind_space altered_at a.0.1)) (λ altered. Some (event.Alter a.0.0.0 a.0.0.1 a.0.0.2 altered)) e a.2 in
+    let s = column_is (codes "alter ") line rest a.0 p a.1 in
+    let c = whole_is (behind_space altered_at) (behind altered_text_of) altered_is_plain (behind_sound altered_at altered_text_of altered_is_plain altered_sound) a.0.1 b.0 b.1 in
+    let same : event.Alter a.0.0.0 a.0.0.1 a.0.0.2 b.0 ≡ e = same_Some (event.Alter a.0.0.0 a.0.0.1 a.0.0.2 b.0) e b.2 in
+    let parts : line ≡ column_of (codes "alter ") a.0.0 ++ (codes " " ++ altered_text_of b.0) = s.parts ∙ ap (λ (t : List ℕ). column_of (codes "alter ") a.0.0 ++ t) c.0 in
+    subst (EventIs line) same (parts ∙ sym (append_assoc (column_of (codes "alter ") a.0.0) (codes " ") (altered_text_of b.0)), (s.fits.0, s.fits.1, c.1))
+
 -- a number after a word
 word_is : {X : Type 0} (read : List ℕ → Read X) (text : X → List ℕ) (P : X → Type 0) (f : X → Event) (word : List ℕ) → Sound read text P
     → ((x : X) → event_text_of (f x) ≡ word ++ text x) → ((x : X) → P x → HasPlainParts (f x))
@@ -161,7 +177,8 @@ event_is line e h =
     let idles : List ℕ → Option Event = λ rest. whole (client_at rest) >>= λ client. Some (event.Idle client) in
     let clocks : List ℕ → Option Event = λ rest. whole (integer_at rest) >>= λ moment. Some (event.Clock moment) in
     let stops : List ℕ → Option Event = λ rest. whole (client_at rest) >>= λ client. Some (event.Stop client) in
-    let land = case_of (after (codes "land ") line) land_of None in
+    let alter = case_of (after (codes "alter ") line) alter_of None in
+    let land = case_of (after (codes "land ") line) land_of alter in
     let idle = case_of (after (codes "idle ") line) idles land in
     let clock = case_of (after (codes "clock ") line) clocks idle in
     let stop = case_of (after (codes "stop ") line) stops clock in
@@ -174,7 +191,8 @@ event_is line e h =
     (λ rest q k. word_is integer_at signed_decimal IsLong event.Clock (codes "clock ") integer_sound (λ n. refl) (λ n f. f) line rest e (after_is (codes "clock ") line rest q) k) (λ q k.
     case_some (after (codes "idle ") line) idles land (Some e) k
     (λ rest q k. word_is client_at decimal IsClient event.Idle (codes "idle ") client_sound (λ n. refl) (λ n f. f) line rest e (after_is (codes "idle ") line rest q) k) (λ q k.
-    case_some (after (codes "land ") line) land_of None (Some e) k (λ rest q k. land_is line rest e (after_is (codes "land ") line rest q) k) (λ q k. absurd cc))))))
+    case_some (after (codes "land ") line) land_of alter (Some e) k (λ rest q k. land_is line rest e (after_is (codes "land ") line rest q) k) (λ q k.
+    case_some (after (codes "alter ") line) alter_of None (Some e) k (λ rest q k. alter_is line rest e (after_is (codes "alter ") line rest q) k) (λ q k. absurd cc)))))))
 
 ---- the line of each event is read
 
@@ -193,6 +211,9 @@ landed_pieces w n p s q r a h b y = simp append_assoc
 land_pieces : (n s r h y : List ℕ) → (codes "land " ++ n ++ codes " " ++ s ++ codes " " ++ r) ++ (codes " " ++ h ++ codes " " ++ y) ≡ codes "land " ++ (n ++ 32 ∷ (s ++ 32 ∷ (r ++ 32 ∷ (h ++ 32 ∷ y))))
 land_pieces n s r h y = landed_pieces (codes "land ") n (codes " ") s (codes " ") r (codes " ") h (codes " ") y
 
+alter_pieces : (t c k a : List ℕ) → codes "alter " ++ t ++ codes " " ++ c ++ codes " " ++ k ++ codes " " ++ a ≡ codes "alter " ++ (t ++ 32 ∷ (c ++ 32 ∷ (k ++ 32 ∷ a)))
+alter_pieces t c k a = simp append_assoc
+
 client_again : (n : ℕ) → n < 2 ^ 32 → client_at (decimal n) ≡ Some (n, [])
 client_again n lt = ap client_at (sym (append-nil (decimal n))) ∙ below_again (2 ^ 32) n [] (omega arith) lt refl
 
@@ -203,7 +224,7 @@ given_last : (given : Option Answer) → IsPlainGiven given → given_at (given_
 given_last given fits = ap given_at (sym (append-nil (given_text_of given))) ∙ given_again given [] fits refl
 
 pub event_again : (e : Event) → HasPlainParts e → event_of (event_text_of e) ≡ Some e
-unfolding event_of take_of call_of asked_at came_at land_of effect_at
+unfolding event_of take_of call_of asked_at came_at land_of effect_at alter_of
 event_again (event.Take client text given) fits =
     ap event_of (take_pieces (decimal client) (given_text_of given) text)
     ∙ rw (below_again (2 ^ 32) client (32 ∷ (given_text_of given ++ (codes " : " ++ text))) (omega arith) fits.0 refl, given_again given (codes " : " ++ text) fits.2 refl, is_utf8-from_IsUtf8 text fits.1) refl
@@ -234,6 +255,9 @@ event_again (event.Land number store request how reply) fits =
       landed_how_again how y fits.4,
       reply_last reply fits.3,
     ) refl
+event_again (event.Alter table column kind altered) fits =
+    ap event_of (alter_pieces (table_text table) column (kind_text kind) (altered_text_of altered))
+    ∙ rw (column_again table column kind (altered_text_of altered) fits.0 fits.1, altered_last altered fits.2) refl
 
 ---- with the number first
 

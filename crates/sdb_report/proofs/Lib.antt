@@ -14,6 +14,7 @@ mod ValueLaws
 mod KeyLaws
 mod AnswerLaws
 mod RequestLaws
+mod AlterLaws
 mod EventLaws
 mod LineLaws
 pub mod Public

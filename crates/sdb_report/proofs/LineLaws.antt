@@ -15,17 +15,20 @@ use Rattle.sdb_types.specs.Fits.{value_fits, pair_fits, key_fits, columns_fit, r
 use Rattle.sdb_types.specs.Identifier.{is_part, is_name}
 use Rattle.sdb_types.specs.Order.{table_text}
 use Rattle.sdb_types.specs.TxId.{id_text}
-use Rattle.sdb_report.specs.Types.{Answer, Condition, Event, How, Key, Pair, Record, Reply, Request, TableName, Value}
+use Rattle.sdb_schema.specs.Kinds.{kind_text}
+use Rattle.sdb_schema.specs.declared.table.Kind.TheVariants as kind
+use Rattle.sdb_report.specs.Types.{Altered, Answer, Condition, Event, How, Key, Kind, Pair, Record, Reply, Request, TableName, Value}
 use Rattle.sdb_types.specs.declared.record.Condition.TheVariants.{Absent, Version}
 use Rattle.sdb_types.specs.declared.record.Reply.TheVariants as reply
 use Rattle.sdb_types.specs.declared.record.Request.TheVariants as ask
 use Rattle.sdb_types.specs.declared.record.State.TheVariants.{Prepared, Deleted, Committed, Aborted}
 use Rattle.sdb_types.specs.declared.value.Value.TheVariants as value
 use Rattle.sdb_types.proofs.Public.{and_both, and_first, and_second, by_test, parts}
-use Rattle.sdb_model.specs.Plain.{is_no_lf, is_one_line, table_is_plain, IsFoundAt, values_are_plain, request_is_plain, reply_is_plain, IsPlainAnswer, IsPlainGiven, HasPlainParts}
-use Rattle.sdb_model.specs.Report.{given_text_of, condition_text_of, request_text_of, how_text_of, found_text_of, reply_text_of, event_text_of}
+use Rattle.sdb_model.specs.Plain.{is_no_lf, is_one_line, table_is_plain, IsFoundAt, values_are_plain, request_is_plain, reply_is_plain, altered_is_plain, IsPlainAnswer, IsPlainGiven, HasPlainParts}
+use Rattle.sdb_model.specs.Report.{given_text_of, condition_text_of, request_text_of, how_text_of, found_text_of, reply_text_of, altered_text_of, event_text_of}
 use Rattle.sdb_model.specs.Texts.{doubled, value_text_of, values_text_of, row_text_of, clustering_text_of, key_text_of, partition_text_of, pair_text_of, columns_text_of, record_text_of, found_columns_text_of, rows_text_of, answer_text_of}
 use Rattle.sdb_model.specs.declared.answer.Answer.TheVariants as answer
+use Rattle.sdb_model.specs.declared.event.Altered.TheVariants as altered
 use Rattle.sdb_model.specs.declared.event.Event.TheVariants as event
 use Rattle.sdb_model.specs.declared.event.How.TheVariants.{Seen, Lost, Discarded, Delayed, Broken}
 use Rattle.sdb_report.specs.OneLine.{ValueHasNoLf, ValuesHaveNoLf, KeyHasNoLf, ColumnsHaveNoLf, RecordHasNoLf, AnswerHasNoLf, RequestHasNoLf, ReplyHasNoLf, EventHasNoLf}
@@ -240,6 +243,18 @@ reply_one (reply.NotMet found) fits h = found_one found fits h
 reply_one reply.Fault fits h = refl
 reply_one reply.NoMemory fits h = refl
 
+kind_one : (k : Kind) → IsLine (kind_text k)
+kind_one kind.Boolean = refl
+kind_one kind.Int = refl
+kind_one kind.BigInt = refl
+kind_one kind.Text = refl
+kind_one kind.Blob = refl
+
+altered_one : (a : Altered) → altered_is_plain a → IsLine (altered_text_of a)
+altered_one altered.Done fits = refl
+altered_one altered.Open fits = refl
+altered_one (altered.Refused n) fits = decimal_one n (omega (arith, fits))
+
 ---- events
 
 pub event_one : (e : Event) → HasPlainParts e → EventHasNoLf e → IsLine (event_text_of e)
@@ -260,3 +275,8 @@ event_one (event.Land number store request how reply) fits h =
     let b = then_space (codes "land " ++ decimal number ++ codes " " ++ store) (request_text_of request) a (request_one request fits.2 h.0) in
     let c = then_space (codes " " ++ how_text_of how) (reply_text_of reply) (how_one how) (reply_one reply fits.3 h.1) in
     lines_joined (codes "land " ++ decimal number ++ codes " " ++ store ++ codes " " ++ request_text_of request) (codes " " ++ how_text_of how ++ codes " " ++ reply_text_of reply) b c
+event_one (event.Alter table column kind altered) fits h =
+    let a = lines_joined (codes "alter ") (table_text table) refl (table_one table fits.0) in
+    let b = then_space (codes "alter " ++ table_text table) column a (name_one column fits.1) in
+    let c = then_space (codes "alter " ++ table_text table ++ codes " " ++ column) (kind_text kind) b (kind_one kind) in
+    then_space (codes "alter " ++ table_text table ++ codes " " ++ column ++ codes " " ++ kind_text kind) (altered_text_of altered) c (altered_one altered fits.2)

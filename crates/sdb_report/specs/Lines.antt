@@ -1,14 +1,16 @@
 -- Reading the parts of a report's lines: answers, requests, replies, events, points and rows.
 use Rattle.std.specs.Prelude.{◌^◌, ℕ, Bool, true, false, if◌then◌else◌, List, [], ◌∷◌, codes, decimal, Option, Some, None}
-use Rattle.sdb_report.specs.Types.{Answer, Condition, Event, How, Key, Record, Reply, Request, State, Value}
+use Rattle.sdb_report.specs.Types.{Altered, Answer, Condition, Event, How, Key, Kind, Record, Reply, Request, State, TableName, Value}
+use Rattle.sdb_schema.specs.declared.table.Kind.TheVariants as kind
 use Rattle.sdb_types.specs.declared.record.Condition.TheVariants.{Absent, Version}
 use Rattle.sdb_types.specs.declared.record.Reply.TheVariants as reply
 use Rattle.sdb_types.specs.declared.record.Request.TheVariants as ask
 use Rattle.sdb_types.specs.declared.record.State.TheVariants.{Prepared, Deleted, Committed, Aborted}
 use Rattle.sdb_model.specs.declared.answer.Answer.TheVariants as answer
+use Rattle.sdb_model.specs.declared.event.Altered.TheVariants as altered
 use Rattle.sdb_model.specs.declared.event.Event.TheVariants as event
 use Rattle.sdb_model.specs.declared.event.How.TheVariants.{Seen, Lost, Discarded, Delayed, Broken}
-use Rattle.sdb_report.specs.FieldReading.{Read, case_of, after, text_of, name_at, natural_at, natural_below, integer_at, counted, row_at, key_at, span_at, columns_at, record_at, id_at}
+use Rattle.sdb_report.specs.FieldReading.{Read, case_of, after, text_of, name_at, natural_at, natural_below, integer_at, counted, row_at, table_at, key_at, span_at, columns_at, record_at, id_at}
 use Rattle.sdb_types.specs.Options.{◌>>=◌}
 
 -- what is read, made into something else
@@ -161,6 +163,29 @@ reply_at bytes =
     (case_of (after (codes "fault") bytes) (λ rest. Some (reply.Fault, rest))
     (case_of (after (codes "nomemory") bytes) (λ rest. Some (reply.NoMemory, rest)) None)))))
 
+---- added columns
+
+unfoldable pub kind_at : List ℕ → Read Kind
+kind_at bytes =
+    case_of (after (codes "BOOLEAN") bytes) (λ rest. Some (kind.Boolean, rest))
+    (case_of (after (codes "INT") bytes) (λ rest. Some (kind.Int, rest))
+    (case_of (after (codes "BIGINT") bytes) (λ rest. Some (kind.BigInt, rest))
+    (case_of (after (codes "TEXT") bytes) (λ rest. Some (kind.Text, rest))
+    (case_of (after (codes "BLOB") bytes) (λ rest. Some (kind.Blob, rest)) None))))
+
+abbrev pub refused_at : List ℕ → Read Altered
+refused_at bytes = made altered.Refused (natural_below (2 ^ 8) bytes)
+
+unfoldable pub altered_at : List ℕ → Read Altered
+altered_at bytes =
+    case_of (after (codes "done") bytes) (λ rest. Some (altered.Done, rest))
+    (case_of (after (codes "open") bytes) (λ rest. Some (altered.Open, rest))
+    (case_of (after (codes "refused ") bytes) refused_at None))
+
+-- a table, and a column of a kind that is to be added to it
+unfoldable pub column_at : List ℕ → Read (TableName × List ℕ × Kind)
+column_at bytes = table_at bytes >>= λ table. behind_space name_at table.1 >>= λ column. behind_space kind_at column.1 >>= λ kind. Some ((table.0, column.0, kind.0), kind.1)
+
 ---- whole lines
 
 abbrev pub client_at : List ℕ → Read ℕ
@@ -196,6 +221,9 @@ effect_at bytes = behind_space landed_how_at bytes >>= λ how. behind_space repl
 unfoldable pub land_of : List ℕ → Option Event
 land_of line = asked_at line >>= λ asked. whole (effect_at asked.1) >>= λ effect. Some (event.Land asked.0.0 asked.0.1 asked.0.2 effect.0 effect.1)
 
+unfoldable pub alter_of : List ℕ → Option Event
+alter_of line = column_at line >>= λ column. whole (behind_space altered_at column.1) >>= λ altered. Some (event.Alter column.0.0 column.0.1 column.0.2 altered)
+
 unfoldable pub event_of : List ℕ → Option Event
 event_of line =
     case_of (after (codes "take ") line) take_of
@@ -203,7 +231,8 @@ event_of line =
     (case_of (after (codes "stop ") line) (λ rest. whole (client_at rest) >>= λ client. Some (event.Stop client))
     (case_of (after (codes "clock ") line) (λ rest. whole (integer_at rest) >>= λ moment. Some (event.Clock moment))
     (case_of (after (codes "idle ") line) (λ rest. whole (client_at rest) >>= λ client. Some (event.Idle client))
-    (case_of (after (codes "land ") line) land_of None)))))
+    (case_of (after (codes "land ") line) land_of
+    (case_of (after (codes "alter ") line) alter_of None))))))
 
 -- the event of the line with this number
 unfoldable pub numbered_event_of : ℕ → List ℕ → Option Event

@@ -68,3 +68,4 @@ EventHasNoLf (event.Stop client) = Unit {0}
 EventHasNoLf (event.Clock moment) = Unit {0}
 EventHasNoLf (event.Idle client) = Unit {0}
 EventHasNoLf (event.Land number store request how reply) = RequestHasNoLf request × ReplyHasNoLf reply
+EventHasNoLf (event.Alter table column kind altered) = Unit {0}

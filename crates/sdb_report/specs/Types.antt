@@ -2,11 +2,13 @@
 pub use Rattle.hex.specs.declared.error.FromHexError.{FromHexError}
 pub use Rattle.sdb_codec.specs.declared.refused.Stopped.{Stopped}
 pub use Rattle.sdb_model.specs.declared.answer.Answer.{Answer}
+pub use Rattle.sdb_model.specs.declared.event.Altered.{Altered}
 pub use Rattle.sdb_model.specs.declared.event.Event.{Event}
 pub use Rattle.sdb_model.specs.declared.event.How.{How}
 pub use Rattle.sdb_model.specs.declared.event.Outcome.{Outcome}
 pub use Rattle.sdb_model.specs.declared.event.Point.{Point}
 pub use Rattle.sdb_model.specs.declared.event.TableDump.{TableDump}
+pub use Rattle.sdb_schema.specs.declared.table.Kind.{Kind}
 pub use Rattle.sdb_types.specs.declared.key.Key.{Key}
 pub use Rattle.sdb_types.specs.declared.key.TableName.{TableName}
 pub use Rattle.sdb_types.specs.declared.pair.Pair.{Pair}

@@ -4,6 +4,7 @@ ghost use Rattle.sdb_report.specs.FieldReading as spec;
 ghost use Rattle.sdb_report.specs.FieldReading.{Gives};
 ghost use Rattle.sdb_report.specs.Lines as form;
 
+use crate::alters::alter_of;
 use crate::{
     Unread, after, expect, given_at, integer_at, name_at, next_how_at, next_landed_how_at,
     reply_at, request_at, text_of, u32_at,
@@ -167,6 +168,9 @@ fn event_of(alloc: Global, line: &[u8]) -> Result<Event, Unread>
     }
     if let Some(rest) = after(b"land ", line) {
         return land_of(alloc, rest);
+    }
+    if let Some(rest) = after(b"alter ", line) {
+        return alter_of(alloc, rest);
     }
     Err(Unread::Bad)
 }

@@ -1,6 +1,7 @@
 //! Reading reports back: what `report_text` of `sdb_texts` prints.
 #![tactic(auto)]
 
+mod alters;
 mod answers;
 mod events;
 pub mod field_laws;

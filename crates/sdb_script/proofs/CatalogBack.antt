@@ -31,7 +31,8 @@ use Rattle.sdb_loader.specs.Words.{is_open, names_table, table_named}
 use Rattle.sdb_loader.specs.Described.{bad_name, bad_field, bad_table, unknown_type, untransactional, first_given, named, table_of, described_members, described_tables, catalog_in}
 use Rattle.sdb_record.proofs.Public.{name_of_column}
 use Rattle.sdb_loader.proofs.Public.{table_named-text}
-use Rattle.sdb_catalog.specs.Definition.{columns_data, definition_of, definition_text, direction_text, kind_text, order_text}
+use Rattle.sdb_catalog.specs.Definition.{columns_data, definition_of, definition_text, direction_text, order_text}
+use Rattle.sdb_schema.specs.Kinds.{kind_text}
 use Rattle.sdb_catalog.proofs.Public.{all_numbered, AreRead, defined, fields_again, keys_rise, kinds_again, members_of, members_read, outline_read, printed_read, refused_none, rising_columns, shallow, sound, table_again}
 use Rattle.sdb_script.specs.Printed.{catalog_text, member_text}
 use Rattle.sdb_script.proofs.JsonUtf8.{AreTexts, ItemsAreTexts, MembersAreTexts, compact_utf8}
@@ -150,7 +151,7 @@ orders_utf8 : (os : List Order) → list_all (λ (o : Order). is_column_name o.n
 orders_utf8 [] h = tt
 orders_utf8 (o ∷ os) h = (order_utf8 o (and_first (is_column_name o.name) _ h), orders_utf8 os (and_second (is_column_name o.name) _ h))
 
-kind_utf8 : (k : Kind) → IsUtf8 (kind_text k)
+pub kind_utf8 : (k : Kind) → IsUtf8 (kind_text k)
 kind_utf8 kind.Boolean = IsUtf8-are_ascii (codes "BOOLEAN") refl
 kind_utf8 kind.Int = IsUtf8-are_ascii (codes "INT") refl
 kind_utf8 kind.BigInt = IsUtf8-are_ascii (codes "BIGINT") refl

@@ -14,11 +14,10 @@ use Rattle.sdb_script.specs.Types.{Move, Place, SchemaFault, ScriptClient, Table
 use Rattle.sdb_loader.specs.Described.{catalog_in}
 use Rattle.sdb_model.specs.Form.{client_line, is_client_name}
 use Rattle.sdb_script.specs.declared.fault.LineRefused.{LineRefused}
-use Rattle.sdb_script.specs.Lines.{most_clients, most_statements, most_moves, place_line, schema_line, text_line, client_lines, move_line, IsMoveText, is_line, is_move, turns, turns_of}
-use Rattle.sdb_script.specs.Begun.{Draft, nothing, ArePlaces, IsClient, AreMoves, IsBegun, LineMeaning, PlaceLine, SchemaOf, ClientOf, StatementOf, Runs, MoveOf, is_first, is_known, is_placed, is_attached, may_be_placed, last_count, MayComeNext}
+use Rattle.sdb_script.specs.Lines.{most_clients, most_statements, most_moves, place_line, schema_line, text_line, client_lines, IsMoveText, is_line, is_move, turns, turns_of}
+use Rattle.sdb_script.specs.Begun.{Draft, nothing, ArePlaces, IsClient, AreMoves, AreMoveTexts, IsBegun, LineMeaning, PlaceLine, SchemaOf, ClientOf, StatementOf, Runs, MoveOf, is_first, is_known, is_placed, is_attached, may_be_placed, last_count, MayComeNext}
 use Rattle.sdb_script.specs.Reading.{with_catalog, new_client, with_statement, add_text}
 use Rattle.sdb_script.proofs.Pieces.{itself}
-use Rattle.sdb_script.proofs.MoveLines.{move_text}
 use Rattle.sdb_script.proofs.Apart.{none_apart, more_apart, attached_of}
 use Rattle.sdb_script.proofs.Steps.{past}
 
@@ -54,7 +53,21 @@ none_begun stores = record {
   described = (refl, refl);
   clients = record { each = All-nil IsClient; once = none_apart; few = omega arith };
   moves = refl;
+  move_lines = [];
+  spelled = tt;
 }
+
+---- the lines of moves
+
+none_written : (lines : Lines) (ms : List Move) → ms ≡ [] → AreMoveTexts lines ms → lines ≡ []
+none_written [] ms e h = refl
+none_written (l ∷ ls) ms e h = absurd (subst (AreMoveTexts (l ∷ ls)) e h)
+
+spelled_more : (lines : Lines) (ms : List Move) (line : List ℕ) (m : Move) → AreMoveTexts lines ms → IsMoveText line m → AreMoveTexts (lines ++ line ∷ []) (ms ++ m ∷ [])
+spelled_more [] [] line m h k = (k, tt)
+spelled_more (l ∷ ls) (n ∷ ns) line m h k = (h.0, spelled_more ls ns line m h.1 k)
+spelled_more [] (n ∷ ns) line m h k = absurd h
+spelled_more (l ∷ ls) [] line m h k = absurd h
 
 ---- the order of lines
 
@@ -95,19 +108,22 @@ place_more : (stores front : Lines) (line : List ℕ) (ps : List Place) (desc : 
     → (is_client_name p.ns && is_client_name p.store) ≡ true → may_be_placed stores ps p ≡ true
     → IsBegun stores (front ++ line ∷ []) (record { places = ps ++ p ∷ []; described = desc; catalog = cat; clients = cs; ran = ran; moves = ms })
 place_more stores front line ps false cat [] false ms p st fit e first named agrees =
+    let none = none_written st.move_lines ms st.moves st.spelled in
     let empty : front ≡ map place_line ps ++ [] =
-    st.order ∙ ap (λ (x : Lines). map place_line ps ++ (x ++ map move_line ms)) st.described.0 ∙ ap (λ (x : List Move). map place_line ps ++ map move_line x) st.moves in
+    st.order ∙ ap (λ (x : Lines). map place_line ps ++ (x ++ st.move_lines)) st.described.0 ∙ ap (λ (x : Lines). map place_line ps ++ x) none in
     record {
       schema = [];
       order =
           ap (λ (x : Lines). x ++ line ∷ []) empty ∙ place_in (map place_line ps) line ∙ ap (λ (x : List ℕ). (map place_line ps ++ x ∷ []) ++ []) e
           ∙ ap (λ (x : Lines). x ++ []) (sym (map-append place_line ps (p ∷ [])))
-          ∙ ap (λ (x : List Move). map place_line (ps ++ p ∷ []) ++ map move_line x) (sym st.moves);
+          ∙ ap (λ (x : Lines). map place_line (ps ++ p ∷ []) ++ x) (sym none);
       fit = fit_more front line st.fit fit;
       placed = more_places stores ps p st.placed named agrees;
       described = (refl, st.described.1);
       clients = st.clients;
       moves = st.moves;
+      move_lines = st.move_lines;
+      spelled = st.spelled;
     }
 place_more stores front line ps true cat cs ran ms p st fit e first named agrees = absurd (not_so ran first)
 place_more stores front line ps false cat (c ∷ cs) ran ms p st fit e first named agrees = absurd (not_first ran c cs first)
@@ -121,18 +137,21 @@ schema_more : (stores front : Lines) (line : List ℕ) (ps : List Place) (desc :
     → catalog_in json ≡ Ok tables
     → IsBegun stores (front ++ line ∷ []) (record { places = ps; described = true; catalog = tables; clients = cs; ran = ran; moves = ms })
 schema_more stores front line ps false cat [] false ms json tables st fit e first described =
+    let none = none_written st.move_lines ms st.moves st.spelled in
     let empty : front ≡ map place_line ps ++ [] =
-    st.order ∙ ap (λ (x : Lines). map place_line ps ++ (x ++ map move_line ms)) st.described.0 ∙ ap (λ (x : List Move). map place_line ps ++ map move_line x) st.moves in
+    st.order ∙ ap (λ (x : Lines). map place_line ps ++ (x ++ st.move_lines)) st.described.0 ∙ ap (λ (x : Lines). map place_line ps ++ x) none in
     record {
       schema = schema_line json ∷ [];
       order =
           ap (λ (x : Lines). x ++ line ∷ []) (empty ∙ append-nil (map place_line ps)) ∙ ap (λ (x : List ℕ). map place_line ps ++ x ∷ []) e
-          ∙ ap (λ (x : List Move). map place_line ps ++ (schema_line json ∷ map move_line x)) (sym st.moves);
+          ∙ ap (λ (x : Lines). map place_line ps ++ (schema_line json ∷ x)) (sym none);
       fit = fit_more front line st.fit fit;
       placed = st.placed;
       described = (json, refl, described);
       clients = st.clients;
       moves = st.moves;
+      move_lines = st.move_lines;
+      spelled = st.spelled;
     }
 schema_more stores front line ps true cat cs ran ms json tables st fit e first described = absurd (not_so ran first)
 schema_more stores front line ps false cat (c ∷ cs) ran ms json tables st fit e first described = absurd (not_first ran c cs first)
@@ -148,8 +167,9 @@ client_more : (stores front : Lines) (line : List ℕ) (ps : List Place) (desc :
     → is_line line ≡ true → line ≡ client_line name → ran ≡ false → is_client_name name ≡ true → is_known cs name ≡ false → length cs < most_clients
     → IsBegun stores (front ++ line ∷ []) (record { places = ps; described = desc; catalog = cat; clients = cs ++ new_client name ∷ []; ran = ran; moves = ms })
 client_more stores front line ps desc cat cs false ms name st fit e before named new few =
+    let none = none_written st.move_lines ms st.moves st.spelled in
     let said : front ≡ map place_line ps ++ (st.schema ++ (flat_map client_lines cs ++ [])) =
-    st.order ∙ ap (λ (x : List Move). map place_line ps ++ (st.schema ++ (flat_map client_lines cs ++ map move_line x))) st.moves in
+    st.order ∙ ap (λ (x : Lines). map place_line ps ++ (st.schema ++ (flat_map client_lines cs ++ x))) none in
     let one : flat_map client_lines (cs ++ new_client name ∷ []) ≡ flat_map client_lines cs ++ client_line name ∷ [] = flat_map-append client_lines cs (new_client name ∷ []) in
     record {
       schema = st.schema;
@@ -157,7 +177,7 @@ client_more stores front line ps desc cat cs false ms name st fit e before named
           ap (λ (x : Lines). x ++ line ∷ []) said ∙ client_in (map place_line ps) st.schema (flat_map client_lines cs) line
           ∙ ap (λ (x : List ℕ). map place_line ps ++ (st.schema ++ ((flat_map client_lines cs ++ x ∷ []) ++ []))) e
           ∙ ap (λ (x : Lines). map place_line ps ++ (st.schema ++ (x ++ []))) (sym one)
-          ∙ ap (λ (x : List Move). map place_line ps ++ (st.schema ++ (flat_map client_lines (cs ++ new_client name ∷ []) ++ map move_line x))) (sym st.moves);
+          ∙ ap (λ (x : Lines). map place_line ps ++ (st.schema ++ (flat_map client_lines (cs ++ new_client name ∷ []) ++ x))) (sym none);
       fit = fit_more front line st.fit fit;
       placed = st.placed;
       described = st.described;
@@ -167,6 +187,8 @@ client_more stores front line ps desc cat cs false ms name st fit e before named
         few = omega (arith, few, length-append cs (new_client name ∷ []));
       };
       moves = st.moves;
+      move_lines = st.move_lines;
+      spelled = st.spelled;
     }
 client_more stores front line ps desc cat cs true ms name st fit e before named new few = absurd (let k : true ≡ false = before in cc)
 
@@ -207,15 +229,16 @@ text_more : (stores front : Lines) (line : List ℕ) (ps : List Place) (desc : B
     → is_line line ≡ true → line ≡ text_line text → ran ≡ false → 0 < length cs → 0 < length text → last_count cs < most_statements
     → IsBegun stores (front ++ line ∷ []) (record { places = ps; described = desc; catalog = cat; clients = add_text cs text; ran = ran; moves = ms })
 text_more stores front line ps desc cat cs false ms text st fit e before one some few =
+    let none = none_written st.move_lines ms st.moves st.spelled in
     let said : front ≡ map place_line ps ++ (st.schema ++ (flat_map client_lines cs ++ [])) =
-    st.order ∙ ap (λ (x : List Move). map place_line ps ++ (st.schema ++ (flat_map client_lines cs ++ map move_line x))) st.moves in
+    st.order ∙ ap (λ (x : Lines). map place_line ps ++ (st.schema ++ (flat_map client_lines cs ++ x))) none in
     record {
       schema = st.schema;
       order =
           ap (λ (x : Lines). x ++ line ∷ []) said ∙ client_in (map place_line ps) st.schema (flat_map client_lines cs) line
           ∙ ap (λ (x : List ℕ). map place_line ps ++ (st.schema ++ ((flat_map client_lines cs ++ x ∷ []) ++ []))) e
           ∙ ap (λ (x : Lines). map place_line ps ++ (st.schema ++ (x ++ []))) (sym (lines_more cs text one))
-          ∙ ap (λ (x : List Move). map place_line ps ++ (st.schema ++ (flat_map client_lines (add_text cs text) ++ map move_line x))) (sym st.moves);
+          ∙ ap (λ (x : Lines). map place_line ps ++ (st.schema ++ (flat_map client_lines (add_text cs text) ++ x))) (sym none);
       fit = fit_more front line st.fit fit;
       placed = st.placed;
       described = st.described;
@@ -225,6 +248,8 @@ text_more stores front line ps desc cat cs false ms text st fit e before one som
         few = omega (arith, st.clients.few, count_stays cs text);
       };
       moves = st.moves;
+      move_lines = st.move_lines;
+      spelled = st.spelled;
     }
 text_more stores front line ps desc cat cs true ms text st fit e before one some few = absurd (let k : true ≡ false = before in cc)
 
@@ -235,19 +260,22 @@ run_more : (stores front : Lines) (line : List ℕ) (ps : List Place) (desc : Bo
     → is_line line ≡ true → line ≡ codes "run" → ran ≡ false
     → IsBegun stores (front ++ line ∷ []) (record { places = ps; described = desc; catalog = cat; clients = cs; ran = true; moves = ms })
 run_more stores front line ps desc cat cs false ms st fit e before =
+    let none = none_written st.move_lines ms st.moves st.spelled in
     let said : front ≡ map place_line ps ++ (st.schema ++ (flat_map client_lines cs ++ [])) =
-    st.order ∙ ap (λ (x : List Move). map place_line ps ++ (st.schema ++ (flat_map client_lines cs ++ map move_line x))) st.moves in
+    st.order ∙ ap (λ (x : Lines). map place_line ps ++ (st.schema ++ (flat_map client_lines cs ++ x))) none in
     record {
       schema = st.schema;
       order =
           ap (λ (x : Lines). x ++ line ∷ []) said ∙ last_in (map place_line ps) st.schema (flat_map client_lines cs) [] [] line
           ∙ ap (λ (x : List ℕ). map place_line ps ++ (st.schema ++ (flat_map client_lines cs ++ x ∷ []))) e
-          ∙ ap (λ (x : List Move). map place_line ps ++ (st.schema ++ (flat_map client_lines cs ++ (codes "run" ∷ map move_line x)))) (sym st.moves);
+          ∙ ap (λ (x : Lines). map place_line ps ++ (st.schema ++ (flat_map client_lines cs ++ (codes "run" ∷ x)))) (sym none);
       fit = fit_more front line st.fit fit;
       placed = st.placed;
       described = st.described;
       clients = st.clients;
       moves = subst (λ (x : List Move). AreMoves true (length cs) x) (sym st.moves) (All-nil (λ m. is_move (length cs) m ≡ true), omega arith);
+      move_lines = st.move_lines;
+      spelled = st.spelled;
     }
 run_more stores front line ps desc cat cs true ms st fit e before = absurd (let k : true ≡ false = before in cc)
 
@@ -255,20 +283,17 @@ move_more : (stores front : Lines) (line : List ℕ) (ps : List Place) (desc : B
     → IsBegun stores front (record { places = ps; described = desc; catalog = cat; clients = cs; ran = ran; moves = ms })
     → is_line line ≡ true → IsMoveText line m → ran ≡ true → is_move (length cs) m ≡ true → turns_of ms + turns m ≤ most_moves
     → IsBegun stores (front ++ line ∷ []) (record { places = ps; described = desc; catalog = cat; clients = cs; ran = ran; moves = ms ++ m ∷ [] })
-move_more stores front line ps desc cat cs true ms m st fit said behind is few =
-    let e : line ≡ move_line m = move_text (length cs) line m st.clients.few is (omega (arith, few)) said in
-    record {
-      schema = st.schema;
-      order =
-          ap (λ (x : Lines). x ++ line ∷ []) st.order ∙ last_in (map place_line ps) st.schema (flat_map client_lines cs) (codes "run" ∷ []) (map move_line ms) line
-          ∙ ap (λ (x : List ℕ). map place_line ps ++ (st.schema ++ (flat_map client_lines cs ++ (codes "run" ∷ (map move_line ms ++ x ∷ []))))) e
-          ∙ ap (λ (x : Lines). map place_line ps ++ (st.schema ++ (flat_map client_lines cs ++ (codes "run" ∷ x)))) (sym (map-append move_line ms (m ∷ [])));
-      fit = fit_more front line st.fit fit;
-      placed = st.placed;
-      described = st.described;
-      clients = st.clients;
-      moves = (All-push (λ (x : Move). is_move (length cs) x ≡ true) ms m st.moves.0 is, omega (arith, few, sum_by_push turns ms m));
-    }
+move_more stores front line ps desc cat cs true ms m st fit said behind is few = record {
+  schema = st.schema;
+  move_lines = st.move_lines ++ line ∷ [];
+  order = ap (λ (x : Lines). x ++ line ∷ []) st.order ∙ last_in (map place_line ps) st.schema (flat_map client_lines cs) (codes "run" ∷ []) st.move_lines line;
+  fit = fit_more front line st.fit fit;
+  placed = st.placed;
+  described = st.described;
+  clients = st.clients;
+  moves = (All-push (λ (x : Move). is_move (length cs) x ≡ true) ms m st.moves.0 is, omega (arith, few, sum_by_push turns ms m));
+  spelled = spelled_more st.move_lines ms line m st.spelled said;
+}
 move_more stores front line ps desc cat cs false ms m st fit said behind is few = absurd (let k : false ≡ true = behind in cc)
 
 ---- any line

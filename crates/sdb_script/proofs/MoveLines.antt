@@ -1,21 +1,28 @@
 -- A line that says a move is read as that move, and as no other.
-use Rattle.std.proofs.Common.{◌≡◌, inl, inr, ℕ, pos, negsuc, ◌^◌, ◌<◌, ◌≤◌, true, false, List, ◌∷◌, ◌++◌, Some, None, refl, sym, ap, subst, ◌∙◌, arith, cond, codes}
-use Rattle.std.specs.Prelude.{nat_le, int_le}
+use Rattle.std.proofs.Common.{◌≡◌, inl, inr, ℕ, pos, negsuc, ◌^◌, ◌<◌, ◌≤◌, Bool, true, false, List, [], ◌∷◌, ◌++◌, map, Some, None, refl, sym, ap, subst, ◌∙◌, arith, cond, codes}
+use Rattle.std.specs.Prelude.{nat_le, int_le, All}
+use Rattle.std.specs.List.{list_all}
 use Rattle.std.specs.Fmt.{decimal}
 use Rattle.std.specs.Option.{option_map, option_and_then}
 use Rattle.std.specs.Str.{bytes_eq}
 use Rattle.std.proofs.lemmas.Bool.Decides.{nat_tests}
+use Rattle.std.proofs.lemmas.List.Elements.{All-head, All-tail}
+use Rattle.std.proofs.lemmas.List.Sums.{sum_by-cons}
 use Rattle.sdb_types.proofs.Public.{and_both, and_first, and_second, by_test, some_is}
 use Rattle.sdb_record.specs.Names.{after_front}
 use Rattle.sdb_record.proofs.Public.{is_front}
-use Rattle.sdb_script.specs.Types.{Act, Move}
+use Rattle.sdb_schema.specs.Kinds.{kind_text}
+use Rattle.sdb_script.specs.Types.{Act, Kind, Move, TableName}
 use Rattle.sdb_model.specs.declared.script.Act.TheVariants as act
 use Rattle.sdb_model.specs.declared.script.Move.TheVariants as move
 use Rattle.sdb_script.specs.Words.{Counts, numeral_in}
-use Rattle.sdb_script.specs.Lines.{act_line, move_line, IsActText, IsMoveText, is_client, is_delayed_number, is_act, is_move, turns, latest, most_moves}
-use Rattle.sdb_script.specs.Reading.{client_in, act_in, repeat_of, step_in, clock_of, clock_in, rest_in, clock_or, stop_or, land_of, land_in, land_or, delay_or, drop_or, lose_or, move_in}
+use Rattle.sdb_script.specs.Lines.{act_line, move_line, IsActText, IsMoveText, are_names, is_client, is_delayed_number, is_act, is_move, turns, turns_of, latest, most_moves}
+use Rattle.sdb_script.specs.Begun.{AreMoveTexts}
+use Rattle.sdb_script.specs.Reading.{client_in, act_in, repeat_of, step_in, clock_of, clock_in, rest_in, clock_or, stop_or, land_of, land_in, land_or, delay_or, drop_or, lose_or, step_or, alter_in, move_in}
 use Rattle.sdb_script.proofs.Pieces.{same_bytes, no_some, map_is, bind_is, map_or_is}
 use Rattle.sdb_script.proofs.Numerals.{numeral_no_space, around_again, around_none, around_is, counted_is, counted_again, text_counts, counts_text}
+use Rattle.sdb_catalog.proofs.Public.{kind_again}
+use Rattle.sdb_script.proofs.AlterLines.{alter_is, alter_again}
 use Rattle.sdb_types.specs.NameText.{around}
 
 abbrev Says : ℕ → List ℕ → Move → Type 0
@@ -118,12 +125,19 @@ lose_or_is n line m h =
       | inr g ↦ drop_or_is n line m g.1
     ]
 
-pub move_is : (n : ℕ) (line : List ℕ) (m : Move) → move_in n line ≡ Some m → IsMoveText line m × (is_move n m ≡ true)
-unfolding move_in
-move_is n line m h =
+step_or_is : (n : ℕ) (line : List ℕ) (m : Move) → step_or n line ≡ Some m → Says n line m
+step_or_is n line m h =
     elim (map_or_is (step_in n) (lose_or n line) (after_front (codes "step ") line) (Some m) h) [
       | inl f ↦ step_is n line f.0 m (is_front (codes "step ") line f.0 f.1) f.2
       | inr g ↦ lose_or_is n line m g.1
+    ]
+
+pub move_is : (n : ℕ) (line : List ℕ) (m : Move) → move_in n line ≡ Some m → IsMoveText line m × (is_move n m ≡ true)
+unfolding move_in
+move_is n line m h =
+    elim (map_or_is alter_in (step_or n line) (after_front (codes "alter ") line) (Some m) h) [
+      | inl f ↦ alter_is n line f.0 m (is_front (codes "alter ") line f.0 f.1) f.2
+      | inr g ↦ step_or_is n line m g.1
     ]
 
 ---- what is said is read
@@ -159,6 +173,7 @@ act_line_again n line (act.Stop c) s h = subst (λ (x : List ℕ). move_in n x �
 act_line_again n line (act.Clock (pos ms)) s h =
     subst (λ (x : List ℕ). move_in n x ≡ Some (move.Act (act.Clock (pos ms)))) (sym s.1) (clock_again s.0 ms s.2 (and_second (int_le (pos 0) (pos ms)) _ h))
 act_line_again n line (act.Clock (negsuc ms)) s h = absurd s
+act_line_again n line (act.Alter t c k) s h = subst (λ (x : List ℕ). move_in n x ≡ Some (move.Act (act.Alter t c k))) (sym s.1) (alter_again t c s.0 k h s.2)
 
 pub move_again : (n : ℕ) (line : List ℕ) (m : Move) → IsMoveText line m → is_move n m ≡ true → move_in n line ≡ Some m
 unfolding move_in
@@ -178,26 +193,45 @@ numbered front line n c few h s = s.1 ∙ ap (λ (x : List ℕ). front ++ x) (co
 delayed_small : (k : ℕ) → is_delayed_number k ≡ true → k < 2 ^ 64
 delayed_small k h = let e = and_second (nat_le 1 k) (nat_le k most_moves) h in grind (arith, nat_tests)
 
-act_text : (n : ℕ) (line : List ℕ) (a : Act) → n ≤ 64 → is_act n a ≡ true → IsActText line a → line ≡ act_line a
-act_text n line (act.Step c) few h s = numbered (codes "step ") line n c few h s
-act_text n line (act.Lose c) few h s = numbered (codes "lose ") line n c few h s
-act_text n line (act.Discard c) few h s = numbered (codes "drop ") line n c few h s
-act_text n line (act.Delay c) few h s = numbered (codes "delay ") line n c few h s
-act_text n line (act.Land k) few h s = s.1 ∙ ap (λ (x : List ℕ). codes "land " ++ x) (counts_text s.0 k s.2 (delayed_small k h))
-act_text n line (act.Stop c) few h s = numbered (codes "stop ") line n c few h s
-act_text n line (act.Clock (pos ms)) few h s =
+-- A test that each line in its one spelling passes that adds a column.
+abbrev pub PassesAlters : (List ℕ → Bool) → Type 0
+PassesAlters p = (t : TableName) (c : List ℕ) (k : Kind) → are_names t.ns t.table c ≡ true → p (act_line (act.Alter t c k)) ≡ true
+
+-- where a line passes such a test, its act's one spelling does
+act_kept : (p : List ℕ → Bool) (n : ℕ) (line : List ℕ) (a : Act) → PassesAlters p → n ≤ 64 → is_act n a ≡ true → IsActText line a → p line ≡ true → p (act_line a) ≡ true
+act_kept p n line (act.Step c) alters few h s ok = subst (λ (x : List ℕ). p x ≡ true) (numbered (codes "step ") line n c few h s) ok
+act_kept p n line (act.Lose c) alters few h s ok = subst (λ (x : List ℕ). p x ≡ true) (numbered (codes "lose ") line n c few h s) ok
+act_kept p n line (act.Discard c) alters few h s ok = subst (λ (x : List ℕ). p x ≡ true) (numbered (codes "drop ") line n c few h s) ok
+act_kept p n line (act.Delay c) alters few h s ok = subst (λ (x : List ℕ). p x ≡ true) (numbered (codes "delay ") line n c few h s) ok
+act_kept p n line (act.Land k) alters few h s ok =
+    subst (λ (x : List ℕ). p x ≡ true) (s.1 ∙ ap (λ (x : List ℕ). codes "land " ++ x) (counts_text s.0 k s.2 (delayed_small k h))) ok
+act_kept p n line (act.Stop c) alters few h s ok = subst (λ (x : List ℕ). p x ≡ true) (numbered (codes "stop ") line n c few h s) ok
+act_kept p n line (act.Clock (pos ms)) alters few h s ok =
     let late = and_second (int_le (pos 0) (pos ms)) _ h in
     let small : ms < 2 ^ 64 = grind (arith, nat_tests) in
-    s.1 ∙ ap (λ (x : List ℕ). codes "clock " ++ x) (counts_text s.0 ms s.2 small)
-act_text n line (act.Clock (negsuc ms)) few h s = absurd s
+    subst (λ (x : List ℕ). p x ≡ true) (s.1 ∙ ap (λ (x : List ℕ). codes "clock " ++ x) (counts_text s.0 ms s.2 small)) ok
+act_kept p n line (act.Clock (negsuc ms)) alters few h s ok = absurd s
+act_kept p n line (act.Alter t c k) alters few h s ok = alters t c k h
 
-pub move_text : (n : ℕ) (line : List ℕ) (m : Move) → n ≤ 64 → is_move n m ≡ true → turns m ≤ 200000 → IsMoveText line m → line ≡ move_line m
-move_text n line (move.Act a) few h small s = act_text n line a few h s
-move_text n line (move.Repeat c k) few h small s =
+move_kept : (p : List ℕ → Bool) (n : ℕ) (line : List ℕ) (m : Move) → PassesAlters p → n ≤ 64 → is_move n m ≡ true → turns m ≤ 200000 → IsMoveText line m → p line ≡ true → p (move_line m) ≡ true
+move_kept p n line (move.Act a) alters few h small s ok = act_kept p n line a alters few h s ok
+move_kept p n line (move.Repeat c k) alters few h small s ok =
     let lt : k < 2 ^ 64 = omega arith in
-    s.2 ∙ ap (λ (x : List ℕ). codes "step " ++ (x ++ 32 ∷ s.1)) (counts_text s.0 c s.3 (client_small n c few (and_first (is_client n c) _ h)))
-    ∙ ap (λ (x : List ℕ). codes "step " ++ (decimal c ++ 32 ∷ x)) (counts_text s.1 k s.4 lt)
-move_text n line move.Rest few h small s = s
+    subst (λ (x : List ℕ). p x ≡ true)
+    (s.2 ∙ ap (λ (x : List ℕ). codes "step " ++ (x ++ 32 ∷ s.1)) (counts_text s.0 c s.3 (client_small n c few (and_first (is_client n c) _ h)))
+    ∙ ap (λ (x : List ℕ). codes "step " ++ (decimal c ++ 32 ∷ x)) (counts_text s.1 k s.4 lt)) ok
+move_kept p n line move.Rest alters few h small s ok = subst (λ (x : List ℕ). p x ≡ true) s ok
+
+-- where each line passes such a test, the one spelling of each move does
+pub moves_kept : (p : List ℕ → Bool) (n : ℕ) (lines : List (List ℕ)) (ms : List Move) → PassesAlters p → n ≤ 64 → All (λ m. is_move n m ≡ true) ms → turns_of ms ≤ 200000 → AreMoveTexts lines ms → list_all p lines ≡ true → list_all p (map move_line ms) ≡ true
+moves_kept p n [] [] alters few are small s ok = refl
+moves_kept p n (line ∷ lines) (m ∷ ms) alters few are small s ok =
+    let sum = sum_by-cons turns m ms in
+    and_both (p (move_line m)) (list_all p (map move_line ms))
+    (move_kept p n line m alters few (All-head (λ (x : Move). is_move n x ≡ true) m ms are) (omega (arith, small, sum)) s.0 (and_first (p line) (list_all p lines) ok))
+    (moves_kept p n lines ms alters few (All-tail (λ (x : Move). is_move n x ≡ true) m ms are) (omega (arith, small, sum)) s.1 (and_second (p line) (list_all p lines) ok))
+moves_kept p n [] (m ∷ ms) alters few are small s ok = absurd s
+moves_kept p n (line ∷ lines) [] alters few are small s ok = absurd s
 
 said : (n c : ℕ) → n ≤ 64 → is_client n c ≡ true → Counts (decimal c) c
 said n c few h = text_counts c (client_small n c few h)
@@ -213,11 +247,18 @@ text_act n (act.Clock (pos ms)) few h =
     let late = and_second (int_le (pos 0) (pos ms)) _ h in
     let small : ms < 2 ^ 64 = grind (arith, nat_tests) in
     (decimal ms, refl, text_counts ms small)
+text_act n (act.Alter t c k) few h = (kind_text k, refl, kind_again k)
 text_act n (act.Clock (negsuc ms)) few h = absurd (let k : false ≡ true = and_first (int_le (pos 0) (negsuc ms)) (int_le (negsuc ms) latest) h in cc)
 
-pub text_move : (n : ℕ) (m : Move) → n ≤ 64 → is_move n m ≡ true → turns m ≤ 200000 → IsMoveText (move_line m) m
+text_move : (n : ℕ) (m : Move) → n ≤ 64 → is_move n m ≡ true → turns m ≤ 200000 → IsMoveText (move_line m) m
 text_move n (move.Act a) few h small = text_act n a few h
 text_move n (move.Repeat c k) few h small =
     let lt : k < 2 ^ 64 = omega arith in
     (decimal c, decimal k, refl, said n c few (and_first (is_client n c) _ h), text_counts k lt)
 text_move n move.Rest few h small = refl
+
+pub text_moves : (n : ℕ) (ms : List Move) → n ≤ 64 → All (λ m. is_move n m ≡ true) ms → turns_of ms ≤ 200000 → AreMoveTexts (map move_line ms) ms
+text_moves n [] few are small = tt
+text_moves n (m ∷ ms) few are small =
+    let sum = sum_by-cons turns m ms in
+    (text_move n m few (All-head (λ (x : Move). is_move n x ≡ true) m ms are) (omega (arith, small, sum)), text_moves n ms few (All-tail (λ (x : Move). is_move n x ≡ true) m ms are) (omega (arith, small, sum)))

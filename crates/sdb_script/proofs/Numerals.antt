@@ -26,7 +26,7 @@ abbrev pub HasNoSpace : List ℕ → Type 0
 HasNoSpace [] = Unit {0}
 HasNoSpace (c ∷ cs) = ((c == 32) ≡ false) × HasNoSpace cs
 
-part_no_space : (c : ℕ) → is_part c ≡ true → (c == 32) ≡ false
+pub part_no_space : (c : ℕ) → is_part c ≡ true → (c == 32) ≡ false
 part_no_space c h = grind (arith, nat_tests)
 
 start_no_space : (c : ℕ) → is_start c ≡ true → (c == 32) ≡ false

@@ -21,7 +21,8 @@ use Rattle.sdb_loader.specs.Fields.{clustering_key, columns, partition_key, seco
 use Rattle.sdb_loader.specs.declared.fault.SchemaFault.TheVariants as schema
 use Rattle.sdb_loader.specs.Described.{bad_name, named, table_of, untransactional, bad_field, unknown_type, bad_table, first_given, refuse, within_limit, described_tables, described_members, described, json_of, catalog_in}
 use Rattle.sdb_loader.proofs.Public.{text_of}
-use Rattle.sdb_catalog.specs.Definition.{kind_text, order_text, columns_data, names_data, orders_data, definition_text}
+use Rattle.sdb_catalog.specs.Definition.{order_text, columns_data, names_data, orders_data, definition_text}
+use Rattle.sdb_schema.specs.Kinds.{kind_text}
 use Rattle.sdb_script.specs.Printed.{member_text, catalog_text}
 use Rattle.sdb_script.specs.Printed as printed
 
@@ -116,7 +117,7 @@ identifier_single : (bs : List ℕ) → is_identifier bs ≡ true → is_single 
 identifier_single [] h = refl
 identifier_single (b ∷ bs) h = and_both (not (b == 10)) (is_single bs) (start_other b (and_first (is_start b) _ h)) (parts_single bs (and_second (is_start b) _ h))
 
-column_single : (name : List ℕ) → is_column_name name ≡ true → is_single name ≡ true
+pub column_single : (name : List ℕ) → is_column_name name ≡ true → is_single name ≡ true
 column_single name h = identifier_single name (and_second (nat_le (length name) 64) (is_identifier name) h)
 
 -- a schema may name the table

@@ -9,7 +9,7 @@ use Rattle.sdb_loader.specs.Described.{catalog_in}
 use Rattle.sdb_loader.specs.declared.fault.SchemaFault.TheVariants as schema
 use Rattle.std.proofs.lemmas.List.Concat.{flat_map-append}
 use Rattle.std.proofs.lemmas.List.Folds.{list_all-append}
-use Rattle.sdb_types.proofs.Public.{and_both, and_first, and_second, by_test}
+use Rattle.sdb_types.proofs.Public.{and_both, and_first, and_second, at_most_nat, by_test}
 use Rattle.sdb_script.specs.Types.{Script, ScriptClient, Table}
 use Rattle.sdb_schema.specs.Catalog.{is_catalog}
 use Rattle.sdb_model.specs.Form.{lines_of, onto_first, client_line}
@@ -17,7 +17,9 @@ use Rattle.sdb_script.specs.Lines.{most_bytes, most_line, place_line, schema_lin
 use Rattle.sdb_script.specs.Begun.{IsBegun, IsSchema, run_lines}
 use Rattle.sdb_script.specs.Whole.{whole, IsScript}
 use Rattle.sdb_script.specs.Printed.{catalog_text, schema_text, place_text, client_text, script_text_of, schema_lines, fits_line}
+use Rattle.sdb_script.proofs.AlterLines.{alter_fits, alter_single}
 use Rattle.sdb_script.proofs.CatalogBack.{catalog_again}
+use Rattle.sdb_script.proofs.MoveLines.{PassesAlters, moves_kept, text_moves}
 use Rattle.sdb_script.proofs.OneLine.{is_single, json_single, json_may, may_name}
 use Rattle.sdb_model.specs.Texts.{with_lf}
 
@@ -120,35 +122,50 @@ schema_fits : (ts : List Table) → IsReadBack ts → list_all is_line (schema_l
 schema_fits [] h = refl
 schema_fits (t ∷ ts) h =
     let json = catalog_text (t ∷ ts) in
-    let short : nat_le (length (schema_line json)) most_line ≡ true = within (length (schema_line json)) most_line h.0 in
+    let short : nat_le (length (schema_line json)) most_line ≡ true = at_most_nat (length (schema_line json)) most_line h.0 in
     rw (short, schema_utf8 json (text_described json (t ∷ ts) h.1)) refl
-  where
-    within : (n m : ℕ) → n ≤ m → nat_le n m ≡ true
-    within n m k = grind (arith, nat_tests)
 
 schema_single : (ts : List Table) → IsReadBack ts → list_all is_single (schema_lines ts) ≡ true
 schema_single [] h = refl
 schema_single (t ∷ ts) h = rw (json_single (t ∷ ts) (json_may (catalog_text (t ∷ ts)) (t ∷ ts) h.1)) refl
 
+-- the last of five parts in place of another
+behind : (p : List ℕ → Bool) (a x y : Lines) → (list_all p x ≡ true → list_all p y ≡ true) → list_all p (a ++ x) ≡ true → list_all p (a ++ y) ≡ true
+behind p a x y f h =
+    let whole = sym (list_all-append p a x) ∙ h in
+    list_all-append p a y ∙ and_both (list_all p a) (list_all p y) (and_first (list_all p a) (list_all p x) whole) (f (and_second (list_all p a) (list_all p x) whole))
+
+-- the lines of the moves in place of others
+respelled : (p : List ℕ → Bool) (a s c : Lines) (lines new : Lines) → (list_all p lines ≡ true → list_all p new ≡ true) → list_all p (a ++ (s ++ (c ++ (run_lines true ++ lines)))) ≡ true → list_all p (a ++ (s ++ (c ++ (run_lines true ++ new)))) ≡ true
+respelled p a s c lines new f h =
+    behind p a (s ++ (c ++ (run_lines true ++ lines))) (s ++ (c ++ (run_lines true ++ new)))
+    (λ k. behind p s (c ++ (run_lines true ++ lines)) (c ++ (run_lines true ++ new))
+    (λ l. behind p c (run_lines true ++ lines) (run_lines true ++ new) (λ m. behind p (run_lines true) lines new f m) l) k) h
+
+-- A test that all lines pass, the new ones among them, the printed lines pass.
+printed_pass : (p : List ℕ → Bool) (stores lines : Lines) (described : Bool) (s : Script) → (st : IsBegun stores lines (whole described s)) → PassesAlters p → list_all p (schema_lines s.catalog) ≡ true → list_all p lines ≡ true → list_all p (printed_lines s) ≡ true
+printed_pass p stores lines described s st alters new h =
+    let rest = flat_map client_lines s.clients ++ (run_lines true ++ st.move_lines) in
+    let all : list_all p (map place_line s.places ++ (st.schema ++ rest)) ≡ true = subst (λ (x : Lines). list_all p x ≡ true) st.order h in
+    respelled p (map place_line s.places) (schema_lines s.catalog) (flat_map client_lines s.clients) st.move_lines (map move_line s.moves)
+    (moves_kept p (length s.clients) st.move_lines s.moves alters st.clients.few st.moves.0 st.moves.1 st.spelled)
+    (swapped p (map place_line s.places) st.schema (schema_lines s.catalog) rest all new)
+
 begun_again : (stores lines : Lines) (described : Bool) (s : Script) → IsBegun stores lines (whole described s) → IsReadBack s.catalog → IsBegun stores (printed_lines s) (whole (has_tables s.catalog) s)
-begun_again stores lines described s st back =
-    let rest = flat_map client_lines s.clients ++ (run_lines true ++ map move_line s.moves) in
-    let fit : list_all is_line (map place_line s.places ++ (st.schema ++ rest)) ≡ true = subst (λ (x : Lines). list_all is_line x ≡ true) st.order st.fit in
-    record {
-      schema = schema_lines s.catalog;
-      order = refl;
-      fit = swapped is_line (map place_line s.places) st.schema (schema_lines s.catalog) rest fit (schema_fits s.catalog back);
-      placed = st.placed;
-      described = schema_again s.catalog back;
-      clients = st.clients;
-      moves = st.moves;
-    }
+begun_again stores lines described s st back = record {
+  schema = schema_lines s.catalog;
+  move_lines = map move_line s.moves;
+  order = refl;
+  fit = printed_pass is_line stores lines described s st alter_fits (schema_fits s.catalog back) st.fit;
+  placed = st.placed;
+  described = schema_again s.catalog back;
+  clients = st.clients;
+  moves = st.moves;
+  spelled = text_moves (length s.clients) s.moves st.clients.few st.moves.0 st.moves.1;
+}
 
 single_again : (stores : Lines) (text : List ℕ) (described : Bool) (s : Script) → IsBegun stores (lines_of text) (whole described s) → IsReadBack s.catalog → list_all is_single (printed_lines s) ≡ true
-single_again stores text described s st back =
-    let rest = flat_map client_lines s.clients ++ (run_lines true ++ map move_line s.moves) in
-    let single : list_all is_single (map place_line s.places ++ (st.schema ++ rest)) ≡ true = subst (λ (x : Lines). list_all is_single x ≡ true) st.order (lines_single text) in
-    swapped is_single (map place_line s.places) st.schema (schema_lines s.catalog) rest single (schema_single s.catalog back)
+single_again stores text described s st back = printed_pass is_single stores (lines_of text) described s st alter_single (schema_single s.catalog back) (lines_single text)
 
 printed_again : (stores : Lines) (text : List ℕ) (s : Script) → IsScript stores text s → IsReadBack s.catalog → length (script_text_of s) ≤ most_bytes → IsScript stores (script_text_of s) s
 printed_again stores text s is back small =

@@ -11,11 +11,10 @@ use Rattle.sdb_types.proofs.Public.{and_both, and_first, and_second, by_test}
 use Rattle.sdb_script.specs.Types.{Move, Place, ScriptClient, Table}
 use Rattle.sdb_model.specs.Form.{client_line, is_client_name}
 use Rattle.sdb_script.specs.declared.fault.LineRefused.{LineRefused}
-use Rattle.sdb_script.specs.Lines.{most_clients, most_statements, most_moves, place_line, schema_line, text_line, client_lines, move_line, is_line, is_move, turns, turns_of}
-use Rattle.sdb_script.specs.Begun.{Draft, nothing, ArePlaces, IsSchema, IsClient, AreClients, AreMoves, run_lines, IsBegun, LineMeaning, PlaceLine, SchemaOf, ClientOf, StatementOf, Runs, MoveOf, is_known, may_be_placed, last_count, MayComeNext}
+use Rattle.sdb_script.specs.Lines.{most_clients, most_statements, most_moves, place_line, schema_line, text_line, client_lines, is_line, is_move, turns, turns_of}
+use Rattle.sdb_script.specs.Begun.{Draft, nothing, ArePlaces, IsSchema, IsClient, AreClients, AreMoves, AreMoveTexts, run_lines, IsBegun, LineMeaning, PlaceLine, SchemaOf, ClientOf, StatementOf, Runs, MoveOf, is_known, may_be_placed, last_count, MayComeNext}
 use Rattle.sdb_script.specs.Reading.{with_catalog, new_client, read_next, read_from}
 use Rattle.sdb_script.proofs.Pieces.{same_bytes}
-use Rattle.sdb_script.proofs.MoveLines.{text_move}
 use Rattle.sdb_script.proofs.BlockLaws.{add_last, count_last}
 use Rattle.sdb_script.proofs.Apart.{new_again, attached_again, at_next}
 use Rattle.sdb_script.proofs.Steps.{past, told_again}
@@ -146,11 +145,11 @@ clients_go stores ps described catalog done (c ∷ cs) a fit =
 abbrev with_moves : List Place → Bool → List Table → List ScriptClient → List Move → Draft
 with_moves ps described catalog cs ms = record { places = ps; described = described; catalog = catalog; clients = cs; ran = true; moves = ms }
 
-moves_go : (stores : Lines) (ps : List Place) (described : Bool) (catalog : List Table) (cs : List ScriptClient) (done ms : List Move) → length cs ≤ most_clients → All (λ m. is_move (length cs) m ≡ true) (done ++ ms) → turns_of (done ++ ms) ≤ most_moves → list_all is_line (map move_line ms) ≡ true
-    → Goes stores (with_moves ps described catalog cs done) (map move_line ms) (with_moves ps described catalog cs (done ++ ms))
-moves_go stores ps described catalog cs done [] small are few fit =
+moves_go : (stores : Lines) (ps : List Place) (described : Bool) (catalog : List Table) (cs : List ScriptClient) (done : List Move) (lines : Lines) (ms : List Move) → AreMoveTexts lines ms → All (λ m. is_move (length cs) m ≡ true) (done ++ ms) → turns_of (done ++ ms) ≤ most_moves → list_all is_line lines ≡ true
+    → Goes stores (with_moves ps described catalog cs done) lines (with_moves ps described catalog cs (done ++ ms))
+moves_go stores ps described catalog cs done [] [] spelled are few fit =
     subst (λ (x : List Move). Goes stores (with_moves ps described catalog cs done) [] (with_moves ps described catalog cs x)) (sym (append-nil done)) (goes_none stores _)
-moves_go stores ps described catalog cs done (m ∷ ms) small are few fit =
+moves_go stores ps described catalog cs done (line ∷ lines) (m ∷ ms) spelled are few fit =
     let d = with_moves ps described catalog cs done in
     let e = with_moves ps described catalog cs (done ++ m ∷ []) in
     let is : is_move (length cs) m ≡ true = at_next (λ (x : Move). is_move (length cs) x ≡ true) done m ms are in
@@ -158,22 +157,23 @@ moves_go stores ps described catalog cs done (m ∷ ms) small are few fit =
     let few_split : turns_of ((done ++ m ∷ []) ++ ms) ≤ most_moves = subst (λ (x : List Move). turns_of x ≤ most_moves) (sym split) few in
     let count : turns_of done + turns m ≤ most_moves = omega (arith, few_split, sum_by-append turns (done ++ m ∷ []) ms, sum_by-append turns done (m ∷ [])) in
     let room : nat_le (turns_of done + turns m) most_moves ≡ true = grind (arith, nat_tests) in
-    let step : Goes stores d (move_line m ∷ []) e =
-    goes_one stores d e (move_line m) (MoveOf m)
-    (and_first (is_line (move_line m)) _ fit, text_move (length cs) m small is (omega (arith, count)), is) (rw room refl) in
-    subst (λ (x : List Move). Goes stores d (map move_line (m ∷ ms)) (with_moves ps described catalog cs x)) split
-    (goes_then stores d e (with_moves ps described catalog cs ((done ++ m ∷ []) ++ ms)) (move_line m ∷ []) (map move_line ms) step
-    (moves_go stores ps described catalog cs (done ++ m ∷ []) ms small (subst (All (λ (x : Move). is_move (length cs) x ≡ true)) (sym split) are) few_split (and_second (is_line (move_line m)) _ fit)))
+    let step : Goes stores d (line ∷ []) e = goes_one stores d e line (MoveOf m) (and_first (is_line line) _ fit, spelled.0, is) (rw room refl) in
+    subst (λ (x : List Move). Goes stores d (line ∷ lines) (with_moves ps described catalog cs x)) split
+    (goes_then stores d e (with_moves ps described catalog cs ((done ++ m ∷ []) ++ ms)) (line ∷ []) lines step
+    (moves_go stores ps described catalog cs (done ++ m ∷ []) lines ms spelled.1 (subst (All (λ (x : Move). is_move (length cs) x ≡ true)) (sym split) are) few_split (and_second (is_line line) _ fit)))
+moves_go stores ps described catalog cs done [] (m ∷ ms) spelled are few fit = absurd spelled
+moves_go stores ps described catalog cs done (line ∷ lines) [] spelled are few fit = absurd spelled
 
-run_goes : (stores : Lines) (ps : List Place) (described : Bool) (catalog : List Table) (cs : List ScriptClient) (ran : Bool) (ms : List Move) → length cs ≤ most_clients → AreMoves ran (length cs) ms → list_all is_line (run_lines ran ++ map move_line ms) ≡ true
-    → Goes stores (with_clients ps described catalog cs) (run_lines ran ++ map move_line ms) (record { places = ps; described = described; catalog = catalog; clients = cs; ran = ran; moves = ms })
-run_goes stores ps described catalog cs false ms small are fit =
-    subst (λ (x : List Move). Goes stores (with_clients ps described catalog cs) (map move_line x) (record { places = ps; described = described; catalog = catalog; clients = cs; ran = false; moves = x })) (sym are) (goes_none stores _)
-run_goes stores ps described catalog cs true ms small are fit =
+run_goes : (stores : Lines) (ps : List Place) (described : Bool) (catalog : List Table) (cs : List ScriptClient) (ran : Bool) (lines : Lines) (ms : List Move) → AreMoveTexts lines ms → AreMoves ran (length cs) ms → list_all is_line (run_lines ran ++ lines) ≡ true
+    → Goes stores (with_clients ps described catalog cs) (run_lines ran ++ lines) (record { places = ps; described = described; catalog = catalog; clients = cs; ran = ran; moves = ms })
+run_goes stores ps described catalog cs false [] ms spelled are fit =
+    subst (λ (x : List Move). Goes stores (with_clients ps described catalog cs) [] (record { places = ps; described = described; catalog = catalog; clients = cs; ran = false; moves = x })) (sym are) (goes_none stores _)
+run_goes stores ps described catalog cs false (line ∷ lines) ms spelled are fit = absurd (subst (AreMoveTexts (line ∷ lines)) are spelled)
+run_goes stores ps described catalog cs true lines ms spelled are fit =
     let step : Goes stores (with_clients ps described catalog cs) (codes "run" ∷ []) (with_moves ps described catalog cs []) =
     goes_one stores (with_clients ps described catalog cs) (with_moves ps described catalog cs []) (codes "run") Runs (and_first (is_line (codes "run")) _ fit, refl, refl) refl in
-    goes_then stores (with_clients ps described catalog cs) (with_moves ps described catalog cs []) (with_moves ps described catalog cs ms) (codes "run" ∷ []) (map move_line ms) step
-    (moves_go stores ps described catalog cs [] ms small are.0 are.1 (and_second (is_line (codes "run")) _ fit))
+    goes_then stores (with_clients ps described catalog cs) (with_moves ps described catalog cs []) (with_moves ps described catalog cs ms) (codes "run" ∷ []) lines step
+    (moves_go stores ps described catalog cs [] lines ms spelled are.0 are.1 (and_second (is_line (codes "run")) _ fit))
 
 ---- all of them
 
@@ -181,7 +181,7 @@ parts_go : (stores : Lines) (lines : Lines) (ps : List Place) (described : Bool)
     → IsBegun stores lines (record { places = ps; described = described; catalog = catalog; clients = cs; ran = ran; moves = ms })
     → Goes stores nothing lines (record { places = ps; described = described; catalog = catalog; clients = cs; ran = ran; moves = ms })
 parts_go stores lines ps described catalog cs ran ms st =
-    let last = run_lines ran ++ map move_line ms in
+    let last = run_lines ran ++ st.move_lines in
     let middle = flat_map client_lines cs ++ last in
     let behind = st.schema ++ middle in
     let whole : Draft = record { places = ps; described = described; catalog = catalog; clients = cs; ran = ran; moves = ms } in
@@ -192,7 +192,7 @@ parts_go stores lines ps described catalog cs ran ms st =
     (goes_then stores nothing (with_places ps) whole (map place_line ps) behind (places_go stores [] ps st.placed (fit_first (map place_line ps) behind fit))
     (goes_then stores (with_places ps) (with_clients ps described catalog []) whole st.schema middle (schema_goes stores ps described catalog st.schema st.described (fit_first st.schema middle fit_behind))
     (goes_then stores (with_clients ps described catalog []) (with_clients ps described catalog cs) whole (flat_map client_lines cs) last (clients_go stores ps described catalog [] cs st.clients (fit_first (flat_map client_lines cs) last fit_middle))
-    (run_goes stores ps described catalog cs ran ms st.clients.few st.moves (fit_second (flat_map client_lines cs) last fit_middle)))))
+    (run_goes stores ps described catalog cs ran st.move_lines ms st.spelled st.moves (fit_second (flat_map client_lines cs) last fit_middle)))))
 
 -- The lines of a script that has begun are accepted, and what they say is what was said.
 pub begun_goes : (stores : Lines) (lines : Lines) (d : Draft) → IsBegun stores lines d → Goes stores nothing lines d

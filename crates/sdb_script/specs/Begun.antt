@@ -9,7 +9,7 @@ use Rattle.sdb_model.specs.Form.{client_line, is_client_name}
 use Rattle.sdb_script.specs.declared.fault.LineFault.TheVariants as fault
 use Rattle.sdb_script.specs.declared.fault.LineRefused.{LineRefused}
 use Rattle.sdb_script.specs.declared.fault.LineRefused.TheVariants as refused
-use Rattle.sdb_script.specs.Lines.{most_line, most_clients, most_statements, most_moves, place_line, schema_line, text_line, client_lines, move_line, IsMoveText, is_line, is_move, turns, turns_of}
+use Rattle.sdb_script.specs.Lines.{most_line, most_clients, most_statements, most_moves, place_line, schema_line, text_line, client_lines, IsMoveText, is_line, is_move, turns, turns_of}
 
 -- What the lines so far say: the places, whether there was a schema, its catalog, the clients, whether `run` came, and the moves.
 pub record Draft : Type 0 where
@@ -58,6 +58,13 @@ abbrev pub AreMoves : Bool → ℕ → List Move → Type 0
 AreMoves false n moves = moves ≡ []
 AreMoves true n moves = All (λ m. is_move n m ≡ true) moves × (turns_of moves ≤ most_moves)
 
+-- The lines say these moves, in order.
+abbrev pub AreMoveTexts : List (List ℕ) → List Move → Type 0
+AreMoveTexts [] [] = Unit {0}
+AreMoveTexts (line ∷ lines) (m ∷ ms) = IsMoveText line m × AreMoveTexts lines ms
+AreMoveTexts [] (m ∷ ms) = ⊥
+AreMoveTexts (line ∷ lines) [] = ⊥
+
 abbrev pub run_lines : Bool → List (List ℕ)
 run_lines false = []
 run_lines true = codes "run" ∷ []
@@ -66,12 +73,14 @@ run_lines true = codes "run" ∷ []
 -- moves, in this order.
 pub record IsBegun (stores : List (List ℕ)) (lines : List (List ℕ)) (d : Draft) : Type 0 where
   pub schema : List (List ℕ)
-  pub order : lines ≡ map place_line d.places ++ (schema ++ (flat_map client_lines d.clients ++ (run_lines d.ran ++ map move_line d.moves)))
+  pub move_lines : List (List ℕ)
+  pub order : lines ≡ map place_line d.places ++ (schema ++ (flat_map client_lines d.clients ++ (run_lines d.ran ++ move_lines)))
   pub fit : list_all is_line lines ≡ true
   pub placed : ArePlaces stores d.places
   pub described : IsSchema d.described d.catalog schema
   pub clients : AreClients d.clients
   pub moves : AreMoves d.ran (length d.clients) d.moves
+  pub spelled : AreMoveTexts move_lines d.moves
 
 ---- what one more line says
 

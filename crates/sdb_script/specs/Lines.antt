@@ -1,11 +1,14 @@
 -- The lines of a script: how each is spelled, and what it may say.
-use Rattle.std.specs.Prelude.{◌≡◌, ℕ, ◌^◌, ℤ, pos, negsuc, int_le, nat_le, Bool, true, ◌&&◌, List, ◌∷◌, ◌++◌, map, length, codes, sum_by}
+use Rattle.std.specs.Prelude.{◌≡◌, ℕ, ◌^◌, ℤ, pos, negsuc, int_le, nat_le, Bool, true, ◌&&◌, List, ◌∷◌, ◌++◌, map, length, codes, sum_by, Some}
 use Rattle.std.specs.Fmt.{decimal, signed_decimal}
 use Rattle.std.specs.Str.{is_utf8}
-use Rattle.sdb_script.specs.Types.{Act, Move, Place, ScriptClient}
+use Rattle.sdb_types.specs.Order.{table_text}
+use Rattle.sdb_schema.specs.Kinds.{kind_text}
+use Rattle.sdb_loader.specs.Words.{kind_named}
+use Rattle.sdb_script.specs.Types.{Act, Move, Place, ScriptClient, TableName}
 use Rattle.sdb_model.specs.declared.script.Act.TheVariants as act
 use Rattle.sdb_model.specs.declared.script.Move.TheVariants as move
-use Rattle.sdb_model.specs.Form.{client_line}
+use Rattle.sdb_model.specs.Form.{client_line, is_client_name}
 use Rattle.sdb_script.specs.Words.{Counts}
 
 ---- limits
@@ -51,7 +54,11 @@ text_line text = codes "  " ++ text
 abbrev pub client_lines : ScriptClient → List (List ℕ)
 client_lines c = client_line c.name ∷ map text_line c.statements
 
--- `step C`, `lose C`, `drop C`, `delay C`, `land K`, `stop C` and `clock MS`
+-- `alter NS.TABLE COLUMN KIND`, where a word names the kind
+abbrev pub alter_line : TableName → List ℕ → List ℕ → List ℕ
+alter_line table column word = codes "alter " ++ (table_text table ++ 32 ∷ (column ++ 32 ∷ word))
+
+-- `step C`, `lose C`, `drop C`, `delay C`, `land K`, `stop C`, `clock MS`, and `alter NS.TABLE COLUMN KIND` with its kind in upper case
 abbrev pub act_line : Act → List ℕ
 act_line (act.Step c) = codes "step " ++ decimal c
 act_line (act.Lose c) = codes "lose " ++ decimal c
@@ -60,6 +67,7 @@ act_line (act.Delay c) = codes "delay " ++ decimal c
 act_line (act.Land k) = codes "land " ++ decimal k
 act_line (act.Stop c) = codes "stop " ++ decimal c
 act_line (act.Clock ms) = codes "clock " ++ signed_decimal ms
+act_line (act.Alter table column kind) = alter_line table column (kind_text kind)
 
 -- an act's, `step C K` or `rest`
 abbrev pub move_line : Move → List ℕ
@@ -67,7 +75,7 @@ move_line (move.Act a) = act_line a
 move_line (move.Repeat c k) = codes "step " ++ (decimal c ++ 32 ∷ decimal k)
 move_line move.Rest = codes "rest"
 
--- A line says an act, whose number may be of any size.
+-- A line says an act, whose number may be of any size, and whose kind in any case.
 abbrev pub IsActText : List ℕ → Act → Type 0
 IsActText line (act.Step c) = (word : List ℕ) × (line ≡ codes "step " ++ word) × Counts word c
 IsActText line (act.Lose c) = (word : List ℕ) × (line ≡ codes "lose " ++ word) × Counts word c
@@ -77,8 +85,9 @@ IsActText line (act.Land k) = (word : List ℕ) × (line ≡ codes "land " ++ wo
 IsActText line (act.Stop c) = (word : List ℕ) × (line ≡ codes "stop " ++ word) × Counts word c
 IsActText line (act.Clock (pos n)) = (word : List ℕ) × (line ≡ codes "clock " ++ word) × Counts word n
 IsActText line (act.Clock (negsuc n)) = ⊥
+IsActText line (act.Alter table column kind) = (word : List ℕ) × (line ≡ alter_line table column word) × (kind_named word ≡ Some kind)
 
--- A line says a move, whose numbers may be of any size.
+-- A line says a move, whose numbers may be of any size, and whose kind in any case.
 abbrev pub IsMoveText : List ℕ → Move → Type 0
 IsMoveText line (move.Act a) = IsActText line a
 IsMoveText line (move.Repeat c k) = (word : List ℕ) × (more : List ℕ) × (line ≡ codes "step " ++ (word ++ 32 ∷ more)) × Counts word c × Counts more k
@@ -98,6 +107,10 @@ is_client n c = nat_le 1 c && nat_le c n
 abbrev pub is_delayed_number : ℕ → Bool
 is_delayed_number k = nat_le 1 k && nat_le k most_moves
 
+-- the names of a table and of a column, each an identifier of at most 64 bytes
+abbrev pub are_names : List ℕ → List ℕ → List ℕ → Bool
+are_names ns table column = is_client_name ns && (is_client_name table && is_client_name column)
+
 -- an act over so many clients, whose clock is from 0 to 2^53
 abbrev pub is_act : ℕ → Act → Bool
 is_act n (act.Step c) = is_client n c
@@ -107,6 +120,7 @@ is_act n (act.Delay c) = is_client n c
 is_act n (act.Land k) = is_delayed_number k
 is_act n (act.Stop c) = is_client n c
 is_act n (act.Clock ms) = int_le (pos 0) ms && int_le ms latest
+is_act n (act.Alter table column kind) = are_names table.ns table.table column
 
 -- a move over so many clients, which repeats a step twice or more
 abbrev pub is_move : ℕ → Move → Bool

@@ -5,6 +5,7 @@ use Rattle.std.specs.Str.{bytes_eq, is_utf8}
 use Rattle.sdb_record.specs.Names.{after_front}
 use Rattle.sdb_script.specs.Types.{Act, Move, SchemaFault, Script, ScriptClient, Table}
 use Rattle.sdb_loader.specs.Described.{catalog_in}
+use Rattle.sdb_loader.specs.Words.{kind_named}
 use Rattle.sdb_model.specs.declared.script.Act.TheVariants as act
 use Rattle.sdb_model.specs.declared.script.Move.TheVariants as move
 use Rattle.sdb_model.specs.declared.script.Which.TheVariants as which
@@ -15,7 +16,7 @@ use Rattle.sdb_script.specs.declared.fault.LineRefused.TheVariants as refused
 use Rattle.sdb_script.specs.declared.fault.ScriptRefused.{ScriptRefused}
 use Rattle.sdb_script.specs.declared.fault.ScriptRefused.TheVariants.{BadLine, Limit, NoMemory as OutOfMemory}
 use Rattle.sdb_script.specs.Words.{numeral_in}
-use Rattle.sdb_script.specs.Lines.{most_bytes, most_line, most_clients, most_statements, most_moves, is_client, is_delayed_number, turns, turns_of}
+use Rattle.sdb_script.specs.Lines.{most_bytes, most_line, most_clients, most_statements, most_moves, is_client, is_delayed_number, are_names, turns, turns_of}
 use Rattle.sdb_script.specs.Begun.{Draft, nothing, is_first, is_known, may_be_placed, last_count}
 use Rattle.sdb_script.specs.Whole.{last_line}
 use Rattle.sdb_types.specs.NameText.{around}
@@ -70,9 +71,25 @@ drop_or n line = option_map_or (act_in n act.Discard) (after_front (codes "drop 
 abbrev pub lose_or : ℕ → List ℕ → Option Move
 lose_or n line = option_map_or (act_in n act.Lose) (after_front (codes "lose ") line) (drop_or n line)
 
+abbrev pub step_or : ℕ → List ℕ → Option Move
+step_or n line = option_map_or (step_in n) (after_front (codes "step ") line) (lose_or n line)
+
+-- a table's two names, a column's, and the word of a kind
+abbrev pub alter_of : List ℕ × List ℕ → List ℕ → List ℕ → Option Move
+alter_of table column word =
+    if are_names table.0 table.1 column
+    then option_map (λ k. move.Act (act.Alter (record { ns = table.0; table = table.1 }) column k)) (kind_named word)
+    else None
+
+abbrev pub column_of : List ℕ → List ℕ × List ℕ → Option Move
+column_of table c = option_and_then (λ t. alter_of t c.0 c.1) (around 46 table)
+
+abbrev pub alter_in : List ℕ → Option Move
+alter_in words = option_and_then (λ w. option_and_then (column_of w.0) (around 32 w.1)) (around 32 words)
+
 -- the move of a line, over so many clients
 unfoldable pub move_in : ℕ → List ℕ → Option Move
-move_in n line = option_map_or (step_in n) (after_front (codes "step ") line) (lose_or n line)
+move_in n line = option_map_or alter_in (after_front (codes "alter ") line) (step_or n line)
 
 -- a move whose repeats are cut one past the limit
 abbrev pub capped : Move → Move

@@ -33,12 +33,12 @@ impl Model for Counted {
 
 const MOST_MOVES: u32 = 200_000;
 
-fn turns(m: Move) -> u32
-    ensures { result ≡ turns_lem m }
+fn turns(m: &Move) -> u32
+    ensures { result ≡ turns_lem m.now }
 {
     match m {
         Move::Act(_) => 1,
-        Move::Repeat(_, count) => count,
+        Move::Repeat(_, count) => *count,
         Move::Rest => 1,
     }
 }
@@ -54,8 +54,8 @@ impl Counted {
     }
 
     /// Whether there is room for a move.
-    pub fn accepts(&self, m: Move) -> bool
-        ensures { result ≡ nat_le (turns_of self.now + turns_lem m) 200000 }
+    pub fn accepts(&self, m: &Move) -> bool
+        ensures { result ≡ nat_le (turns_of self.now + turns_lem m.now) 200000 }
     {
         turns(m) <= MOST_MOVES - self.turns
     }
@@ -64,8 +64,9 @@ impl Counted {
         requires { turns_of self.old + turns_lem m ≤ 200000 }
         ensures { OnOk result (self.new ≡ self.old ++ m ∷ []) }
     {
+        let count = turns(&m);
         self.moves.push(m)?;
-        self.turns += turns(m);
+        self.turns += count;
         Ok(())
     }
 

@@ -228,14 +228,14 @@ impl Drafting {
     }
 
     // Takes a line after `run`.
-    fn take_move(&mut self, line: &str) -> Result<(), LineRefused>
+    fn take_move(&mut self, alloc: Global, line: &str) -> Result<(), LineRefused>
         ensures ok { OnOk result (spec.take_move self.old line.now ≡ Ok self.new) }
         ensures bad { IfErr result (spec.Refuses (spec.take_move self.old line.now)) }
     {
-        let Some(m) = move_in(self.clients.len(), line) else {
+        let Some(m) = move_in(alloc, self.clients.len(), line)? else {
             return Err(no_form());
         };
-        if !self.moves.accepts(m) {
+        if !self.moves.accepts(&m) {
             return Err(LineRefused::Limit(Which::Moves));
         }
         self.moves.push(m)?;
@@ -248,7 +248,7 @@ impl Drafting {
         ensures bad { IfErr result (spec.Refuses (spec.take_text_line stores.now self.old line.now)) }
     {
         if self.ran {
-            self.take_move(line)
+            self.take_move(alloc, line)
         } else {
             self.take_head(alloc, line, stores)
         }

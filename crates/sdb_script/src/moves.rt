@@ -1,11 +1,15 @@
 //! Lines that say moves.
-ghost use Rattle.std.specs.Prelude.{◌≡◌, ◌≤◌, ◌^◌, ◌-◌, min};
+ghost use Rattle.std.specs.Prelude.{◌≡◌, ◌≤◌, ◌^◌, ◌-◌, min, IfOk};
 ghost use Rattle.std.specs.Option.{option_map, option_copied};
 ghost use Rattle.sdb_model.specs.declared.script.Act.TheVariants as act;
+ghost use Rattle.sdb_script.specs.Lines.{are_names as are_names_lem};
 ghost use Rattle.sdb_script.specs.Reading as spec;
 
-use crate::words::{after, around_space, numeral_in};
+use crate::words::{after, around_dot, around_space, is_short_name, numeral_in};
+use sdb_loader::{kind_named, known_name};
 use sdb_model::{Act, Move};
+use sdb_types::{NoMemory, TableName};
+use std::alloc::Global;
 
 // One past the number of moves that a script may have.
 const TOO_MANY: u64 = 200_001;
@@ -108,10 +112,9 @@ fn rest_in(line: &str) -> Option<Move>
     }
 }
 
-/// The move of a line, over so many clients. Of steps that are more than a script may have, one more than that means all.
-#[tactic(auto, unfolding(crate::specs::Reading::move_in))]
-pub fn move_in(clients: u32, line: &str) -> Option<Move>
-    ensures { result ≡ option_map spec.capped (spec.move_in clients line.now) }
+// The move of a line, but for one that adds a column.
+fn step_or(clients: u32, line: &str) -> Option<Move>
+    ensures { result ≡ option_map spec.capped (spec.step_or clients line.now) }
 {
     if let Some(words) = after("step ", line) {
         step_in(clients, words)
@@ -129,5 +132,67 @@ pub fn move_in(clients: u32, line: &str) -> Option<Move>
         clock_in(word)
     } else {
         rest_in(line)
+    }
+}
+
+fn are_names(ns: &str, table: &str, column: &str) -> bool
+    ensures { result ≡ are_names_lem ns.now table.now column.now }
+{
+    is_short_name(ns) && is_short_name(table) && is_short_name(column)
+}
+
+// A column of the kind that a word names is to be added to a table.
+fn alter_of(
+    alloc: Global,
+    ns: &str,
+    table: &str,
+    column: &str,
+    word: &str,
+) -> Result<Option<Move>, NoMemory>
+    ensures { IfOk result (λ m. m ≡ option_map spec.capped (spec.alter_of (ns.now, table.now) column.now word.now)) }
+{
+    if !are_names(ns, table, column) {
+        return Ok(None);
+    }
+    let Some(kind) = kind_named(word) else {
+        return Ok(None);
+    };
+    let table = TableName {
+        ns: known_name(alloc, ns)?,
+        table: known_name(alloc, table)?,
+    };
+    let column = known_name(alloc, column)?;
+    Ok(Some(Move::Act(Act::Alter(table, column, kind))))
+}
+
+fn column_of(alloc: Global, table: &str, column: &str, word: &str) -> Result<Option<Move>, NoMemory>
+    ensures { IfOk result (λ m. m ≡ option_map spec.capped (spec.column_of table.now (column.now, word.now))) }
+{
+    match around_dot(table) {
+        Some((ns, table)) => alter_of(alloc, ns, table, column, word),
+        None => Ok(None),
+    }
+}
+
+fn alter_in(alloc: Global, words: &str) -> Result<Option<Move>, NoMemory>
+    ensures { IfOk result (λ m. m ≡ option_map spec.capped (spec.alter_in words.now)) }
+{
+    let Some((table, more)) = around_space(words) else {
+        return Ok(None);
+    };
+    match around_space(more) {
+        Some((column, word)) => column_of(alloc, table, column, word),
+        None => Ok(None),
+    }
+}
+
+/// The move of a line, over so many clients. Of steps that are more than a script may have, one more than that means all.
+#[tactic(auto, unfolding(crate::specs::Reading::move_in))]
+pub fn move_in(alloc: Global, clients: u32, line: &str) -> Result<Option<Move>, NoMemory>
+    ensures { IfOk result (λ m. m ≡ option_map spec.capped (spec.move_in clients line.now)) }
+{
+    match after("alter ", line) {
+        Some(words) => alter_in(alloc, words),
+        None => Ok(step_or(clients, line)),
     }
 }

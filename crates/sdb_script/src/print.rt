@@ -3,17 +3,18 @@ ghost use Rattle.std.specs.Prelude.{◌≡◌, ◌≤◌, ◌++◌, ℕ, List, l
 ghost use Rattle.std.specs.Fmt.{signed_decimal};
 ghost use Rattle.std.specs.String.{string_bytes};
 ghost use Rattle.sdb_types.specs.Order.{table_text};
+ghost use Rattle.sdb_schema.specs.Kinds.{kind_text};
 ghost use Rattle.sdb_schema.specs.Table.{rises};
 ghost use Rattle.sdb_model.specs.Form.{client_line};
-ghost use Rattle.sdb_script.specs.Lines.{most_bytes, place_line, act_line, move_line};
+ghost use Rattle.sdb_script.specs.Lines.{most_bytes, alter_line, place_line, act_line, move_line};
 ghost use Rattle.sdb_script.specs.Printed as spec;
 ghost use Rattle.sdb_script.specs.Whole.{IsScript};
 
 use itoa::Buffer;
 use sdb_catalog::definition_text;
 use sdb_model::{Act, Move, Place, Script, ScriptClient};
-use sdb_schema::{Catalog, Table};
-use sdb_types::{NoMemory, TableName, Txt};
+use sdb_schema::{Catalog, Kind, Table};
+use sdb_types::{Name, NoMemory, TableName, Txt};
 use std::alloc::Global;
 
 // Adds a word and a number.
@@ -35,17 +36,39 @@ fn put_clock(out: &mut String, ms: i64) -> Result<(), NoMemory>
     Ok(())
 }
 
-fn put_act(out: &mut String, act: Act) -> Result<(), NoMemory>
-    ensures { OnOk result (string_bytes out.new ≡ string_bytes out.old ++ act_line act) }
+fn put_name(out: &mut String, name: &TableName) -> Result<(), NoMemory>
+    ensures { OnOk result (string_bytes out.new ≡ string_bytes out.old ++ table_text name.now) }
+{
+    out.push_str(name.ns.as_str())?;
+    out.push_str(".")?;
+    out.push_str(name.table.as_str())?;
+    Ok(())
+}
+
+fn put_alter(out: &mut String, table: &TableName, column: &Name, kind: Kind) -> Result<(), NoMemory>
+    ensures { OnOk result (string_bytes out.new ≡ string_bytes out.old ++ alter_line table.now column.now (kind_text kind)) }
+{
+    out.push_str("alter ")?;
+    put_name(out, table)?;
+    out.push_str(" ")?;
+    out.push_str(column.as_str())?;
+    out.push_str(" ")?;
+    out.push_str(kind.as_str())?;
+    Ok(())
+}
+
+fn put_act(out: &mut String, act: &Act) -> Result<(), NoMemory>
+    ensures { OnOk result (string_bytes out.new ≡ string_bytes out.old ++ act_line act.now) }
 {
     match act {
-        Act::Step(client) => put_numbered(out, "step ", client),
-        Act::Lose(client) => put_numbered(out, "lose ", client),
-        Act::Discard(client) => put_numbered(out, "drop ", client),
-        Act::Delay(client) => put_numbered(out, "delay ", client),
-        Act::Land(number) => put_numbered(out, "land ", number),
-        Act::Stop(client) => put_numbered(out, "stop ", client),
-        Act::Clock(ms) => put_clock(out, ms),
+        Act::Step(client) => put_numbered(out, "step ", *client),
+        Act::Lose(client) => put_numbered(out, "lose ", *client),
+        Act::Discard(client) => put_numbered(out, "drop ", *client),
+        Act::Delay(client) => put_numbered(out, "delay ", *client),
+        Act::Land(number) => put_numbered(out, "land ", *number),
+        Act::Stop(client) => put_numbered(out, "stop ", *client),
+        Act::Clock(ms) => put_clock(out, *ms),
+        Act::Alter(table, column, kind) => put_alter(out, table, column, *kind),
     }
 }
 
@@ -64,12 +87,12 @@ fn put_rest(out: &mut String) -> Result<(), NoMemory>
     Ok(())
 }
 
-fn put_move(out: &mut String, m: Move) -> Result<(), NoMemory>
-    ensures { OnOk result (string_bytes out.new ≡ string_bytes out.old ++ move_line m) }
+fn put_move(out: &mut String, m: &Move) -> Result<(), NoMemory>
+    ensures { OnOk result (string_bytes out.new ≡ string_bytes out.old ++ move_line m.now) }
 {
     match m {
         Move::Act(act) => put_act(out, act),
-        Move::Repeat(client, count) => put_repeat(out, client, count),
+        Move::Repeat(client, count) => put_repeat(out, *client, *count),
         Move::Rest => put_rest(out),
     }
 }
@@ -78,7 +101,7 @@ fn put_moves(out: &mut String, moves: &[Move]) -> Result<(), NoMemory>
     ensures { OnOk result (string_bytes out.new ≡ string_bytes out.old ++ flat_map spec.move_text moves.now) }
 {
     for m in moves {
-        put_move(out, *m)?;
+        put_move(out, m)?;
         out.push_str("\n")?;
     }
     Ok(())
@@ -130,15 +153,6 @@ fn put_clients(out: &mut String, clients: &[ScriptClient]) -> Result<(), NoMemor
     for client in clients {
         put_client(out, client)?;
     }
-    Ok(())
-}
-
-fn put_name(out: &mut String, name: &TableName) -> Result<(), NoMemory>
-    ensures { OnOk result (string_bytes out.new ≡ string_bytes out.old ++ table_text name.now) }
-{
-    out.push_str(name.ns.as_str())?;
-    out.push_str(".")?;
-    out.push_str(name.table.as_str())?;
     Ok(())
 }
 

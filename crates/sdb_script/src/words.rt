@@ -38,6 +38,13 @@ pub fn around_space(text: &str) -> Option<(&str, &str)>
     text.split_once(' ')
 }
 
+/// What is before the first dot and after it.
+pub fn around_dot(text: &str) -> Option<(&str, &str)>
+    ensures { option_map (λ p. (p.0.now, p.1.now)) result ≡ around 46 text.now }
+{
+    text.split_once('.')
+}
+
 /// Whether a text is an identifier of at most 64 bytes.
 pub fn is_short_name(text: &str) -> bool
     ensures { result ≡ is_client_name text.now }
