@@ -42,7 +42,7 @@ kept_at {X} g f c x h e = by_test (e == c) (λ t. rw t (ap (λ (k : ℕ). g (f k
 abbrev hand_of : Client → ClientState
 hand_of d = record { client = d; stopped = false }
 
-module _ (catalog : List Table) (fit : Tables → Bool) (states : ℕ → ClientState) (c : ℕ) (d : Client) (events : List Event) where
+module _ (catalog : List Table) (fit : List Table → Tables → Bool) (states : ℕ → ClientState) (c : ℕ) (d : Client) (events : List Event) where
   abbrev pub IsSo : Type 0
   IsSo = RunInvariant catalog fit events (system_of (with_state states c d)) (doing_of (with_state states c d))
 
@@ -70,7 +70,7 @@ module _ (catalog : List Table) (fit : Tables → Bool) (states : ℕ → Client
 
 ---- answered as it is accepted, and as it was
 
-module _ (catalog : List Table) (fit : Tables → Bool) (events : List Event) (states : ℕ → ClientState) (g : RunInvariant catalog fit events (system_of states) (doing_of states)) (c : ℕ) (ready : IsReady states c) where
+module _ (catalog : List Table) (fit : List Table → Tables → Bool) (events : List Event) (states : ℕ → ClientState) (g : RunInvariant catalog fit events (system_of states) (doing_of states)) (c : ℕ) (ready : IsReady states c) where
   at_rest : (states c).client.txn ≡ None → (system_of states).clients c ≡ Resting
   at_rest none = rw (ready.goes_on, ready.idle.free, none) refl
 
@@ -162,7 +162,7 @@ going_stages p true b = refl
 going_stages p false true = refl
 going_stages p false false = refl
 
-module _ (catalog : List Table) (fit : Tables → Bool) (events : List Event) (states : ℕ → ClientState) (g : RunInvariant catalog fit events (system_of states) (doing_of states)) (c : ℕ) (ready : IsReady states c) where
+module _ (catalog : List Table) (fit : List Table → Tables → Bool) (events : List Event) (states : ℕ → ClientState) (g : RunInvariant catalog fit events (system_of states) (doing_of states)) (c : ℕ) (ready : IsReady states c) where
   abbrev now : Client
   now = (states c).client
 

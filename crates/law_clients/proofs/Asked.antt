@@ -27,6 +27,7 @@ use Rattle.sdb_client.specs.Inside.{IsValidPlan, IsKeyRead, MayWrite}
 use Rattle.sdb_client.proofs.Public.{may_write}
 use Rattle.law_clients.specs.ReadAt.{IsOfData}
 use Rattle.law_clients.specs.System.{ClientAt, Open, with_client}
+use Rattle.sdb_model.specs.Catalogs.{catalog_after}
 use Rattle.law_clients.specs.Body.{IsCovered}
 use Rattle.law_clients.specs.Invariant.{RunInvariant, IsInner}
 use Rattle.law_clients.proofs.InvariantTurns.{going_answers, going_asks, going_idle}
@@ -65,10 +66,14 @@ pub record IsAsked (catalog : List Table) (text : List ℕ) (st : Statement) (ta
   pub reads : Reads text st
   pub no_commit : reads_commit text ≡ false
 
-module _ (catalog : List Table) (events : List Event) (states : ℕ → ClientState) (g : RunInvariant catalog (tables_are_well_typed catalog) events (system_of states) (doing_of states)) (c : ℕ) (ready : IsReady states c) (text : List ℕ) (st : Statement) (table : Table) (k : IsAsked catalog text st table)
+module _ (catalog : List Table) (events : List Event) (states : ℕ → ClientState) (g : RunInvariant catalog tables_are_well_typed events (system_of states) (doing_of states)) (c : ℕ) (ready : IsReady states c) (text : List ℕ) (st : Statement) (table : Table) (k : IsAsked (catalog_after catalog events) text st table)
     (t : TxnAt) (some : (states c).client.txn ≡ Some t) (idle : t.doing ≡ doing.Idle) (kept : IsSetInvariant t.seen.read_set t.seen.writes) where
   abbrev now : Client
   now = (states c).client
+
+  -- the tables of the moment
+  abbrev tables_now : List Table
+  tables_now = catalog_after catalog events
 
   abbrev p : Planned
   p = plan_of table st
@@ -80,38 +85,38 @@ module _ (catalog : List Table) (events : List Event) (states : ℕ → ClientSt
   taken_so b = events ++ event.Take c text b ∷ []
 
   valid : IsValidPlan p
-  valid = record { asked = refl; table = named_is_table catalog st table k.is k.named; accepted = sym (ap (λ (o : Option Table). refusal_by o st) k.named) ∙ k.accepted; literals = k.literals }
+  valid = record { asked = refl; table = named_is_table tables_now st table k.is k.named; accepted = sym (ap (λ (o : Option Table). refusal_by o st) k.named) ∙ k.accepted; literals = k.literals }
 
   here : (system_of states).clients c ≡ Open t.id t.seen
-  here = at_open catalog (tables_are_well_typed catalog) events states g c ready t some
+  here = at_open catalog tables_are_well_typed events states g c ready t some
 
   -- it changes nothing
-  as_it_was : (b : Answer) → changes_nothing b ≡ true → IsSo catalog (tables_are_well_typed catalog) states c (holding now t) (taken_so (Some b))
+  as_it_was : (b : Answer) → changes_nothing b ≡ true → IsSo catalog tables_are_well_typed states c (holding now t) (taken_so (Some b))
   as_it_was b nothing =
-      moved catalog (tables_are_well_typed catalog) states c (holding now t) (taken_so (Some b)) ready.idle.free refl
-      (subst (λ (x : ClientAt). RunInvariant catalog (tables_are_well_typed catalog) (taken_so (Some b)) (with_client (system_of states) c x) (at (doing_of states) c None)) (sym by_doing)
-      (going_idle catalog (tables_are_well_typed catalog) events (system_of states) (doing_of states) g c t.id t.seen here text b nothing k.no_commit))
+      moved catalog tables_are_well_typed states c (holding now t) (taken_so (Some b)) ready.idle.free refl
+      (subst (λ (x : ClientAt). RunInvariant catalog tables_are_well_typed (taken_so (Some b)) (with_client (system_of states) c x) (at (doing_of states) c None)) (sym by_doing)
+      (going_idle catalog tables_are_well_typed events (system_of states) (doing_of states) g c t.id t.seen here text b nothing k.no_commit))
     where
       by_doing : abstract_txn (Some t) ≡ Open t.id t.seen
       by_doing = rw idle refl
 
   -- it is answered from rows that were read before
-  from_before : (b : Answer) (ks : List Keyed) → is_covered t.seen a ≡ true → step_of p (overlay a t.seen) ≡ Finished b ks → is_answered_from_rows b ≡ true → IsSo catalog (tables_are_well_typed catalog) states c (holding now (written t ks)) (taken_so (Some b))
+  from_before : (b : Answer) (ks : List Keyed) → is_covered t.seen a ≡ true → step_of p (overlay a t.seen) ≡ Finished b ks → is_answered_from_rows b ≡ true → IsSo catalog tables_are_well_typed states c (holding now (written t ks)) (taken_so (Some b))
   from_before b ks covered step rows =
       let changes : AreChanges t.seen.read_set ks = subst (MayWrite t.seen.read_set) step (may_write t.seen p valid kept (key_read t.seen a covered)) in
-      moved catalog (tables_are_well_typed catalog) states c (holding now (written t ks)) (taken_so (Some b)) ready.idle.free refl
-      (subst (λ (x : ClientAt). RunInvariant catalog (tables_are_well_typed catalog) (taken_so (Some b)) (with_client (system_of states) c x) (at (doing_of states) c None)) (sym by_doing)
-      (going_answers catalog (tables_are_well_typed catalog) events (system_of states) (doing_of states) g c t.id t.seen here text b st a ks rows k.no_commit k.reads (covered_is t.seen a covered)
-      (answers_on catalog p t.seen k.is k.named refl k.accepted k.literals step) changes))
+      moved catalog tables_are_well_typed states c (holding now (written t ks)) (taken_so (Some b)) ready.idle.free refl
+      (subst (λ (x : ClientAt). RunInvariant catalog tables_are_well_typed (taken_so (Some b)) (with_client (system_of states) c x) (at (doing_of states) c None)) (sym by_doing)
+      (going_answers catalog tables_are_well_typed events (system_of states) (doing_of states) g c t.id t.seen here text b st a ks rows k.no_commit k.reads (covered_is t.seen a covered)
+      (answers_on tables_now p t.seen k.is k.named refl k.accepted k.literals step) changes))
     where
       by_doing : abstract_txn (Some (written t ks)) ≡ Open t.id (with_written t.seen ks)
       by_doing = rw idle refl
 
   abbrev Told : PlanStep → Type 0
-  Told s = IsSo catalog (tables_are_well_typed catalog) states c (holding now (given_left t s)) (taken_so (Some (given_answer t s)))
+  Told s = IsSo catalog tables_are_well_typed states c (holding now (given_left t s)) (taken_so (Some (given_answer t s)))
 
   -- What it is answered at once is what its plan gives.
-  pub told_known : is_covered t.seen a ≡ true → IsSo catalog (tables_are_well_typed catalog) states c (holding now (given_left t (gives p a t))) (taken_so (Some (given_answer t (gives p a t))))
+  pub told_known : is_covered t.seen a ≡ true → IsSo catalog tables_are_well_typed states c (holding now (given_left t (gives p a t))) (taken_so (Some (given_answer t (gives p a t))))
   told_known covered = by_unfit (first_unfit table (overlay a t.seen)) refl
     where
       finished_so : (b : Answer) (ks : List Keyed) → gives p a t ≡ Finished b ks → (changes_nothing b ≡ false → is_answered_from_rows b ≡ true) → Told (Finished b ks)
@@ -129,7 +134,7 @@ module _ (catalog : List Table) (events : List Event) (states : ℕ → ClientSt
           subst Told (sym step) (finished_so (answer.BadRecord key) [] step (λ h. absurd (cc)))
 
   -- The call for its rows is pending.
-  pub told_unknown : IsOfData a → IsInner text → IsSo catalog (tables_are_well_typed catalog) states c (record now { txn = Some (reading t a); plan = Some p }) (taken_so None)
+  pub told_unknown : IsOfData a → IsInner text → IsSo catalog tables_are_well_typed states c (record now { txn = Some (reading t a); plan = Some p }) (taken_so None)
   told_unknown tables inner =
-      moved catalog (tables_are_well_typed catalog) states c (record now { txn = Some (reading t a); plan = Some p }) (taken_so None) ready.idle.free refl
-      (going_asks catalog (tables_are_well_typed catalog) events (system_of states) (doing_of states) g c text st t.id t.seen a here tables k.reads inner)
+      moved catalog tables_are_well_typed states c (record now { txn = Some (reading t a); plan = Some p }) (taken_so None) ready.idle.free refl
+      (going_asks catalog tables_are_well_typed events (system_of states) (doing_of states) g c text st t.id t.seen a here tables k.reads inner)

@@ -145,6 +145,7 @@ occurs plan past c (event.Stop d) r by m = m
 occurs plan past c (event.Clock moment) r by m = absurd by
 occurs plan past c (event.Idle d) r by m = m
 occurs plan past c (event.Land number store q how reply) r by m = absurd by
+occurs plan past c (event.Alter table column kind altered) r by m = absurd by
 
 -- and one that may occur is enabled
 pub enabled : (plan : ℕ → Plan) (past : List Labelled) (c : ℕ) (e : Event) (r : Action) → IsBy c e → MayOccur plan past e r → IsEnabled plan past e r
@@ -154,6 +155,7 @@ enabled plan past c (event.Stop d) r by m = m
 enabled plan past c (event.Clock moment) r by m = absurd by
 enabled plan past c (event.Idle d) r by m = m
 enabled plan past c (event.Land number store q how reply) r by m = absurd by
+enabled plan past c (event.Alter table column kind altered) r by m = absurd by
 
 -- What a turn of a client has to show: its event is its own and lawful, ends nothing but its own and begins nothing; the client
 -- knows what it needs where it then is; a transaction of it that stays open is in its hands, and it starts no VACUUM.

@@ -4,7 +4,7 @@ use Rattle.std.specs.Prelude.{◌&&◌, if◌then◌else◌, filter, find, is_ok
 use Rattle.std.specs.List.{AllByRecursion, list_all}
 use Rattle.std.specs.Option.{option_map}
 use Rattle.std.proofs.lemmas.Bool.{and_parts}
-use Rattle.law_clients.specs.Types.{Access, Answer, Image, Key, Meta, Record, RecoverPhase, RecoverStep, Reply, Statement, Table}
+use Rattle.law_clients.specs.Types.{Access, Image, Key, Meta, Record, RecoverPhase, RecoverStep, Reply, Statement, Table}
 use Rattle.sdb_types.specs.declared.record.Reply.TheVariants as reply
 use Rattle.sdb_types.specs.declared.record.State.TheVariants as state
 use Rattle.sdb_record.specs.Parts.{are_stored}

@@ -13,7 +13,7 @@ use Rattle.sdb_txn.specs.declared.txn.Doing.TheVariants as doing
 use Rattle.sdb_txn.specs.Txn.{TxnAt, committing, idle as idle_of, work_of}
 use Rattle.sdb_vacuum.specs.Vacuum.{VacuumAt, begun}
 use Rattle.sdb_client.specs.declared.next.Next.TheVariants as next
-use Rattle.sdb_client.specs.Client.{ClientAt as Client, IsIdle, Taking, after, gives, holding, with_rows_read, plan_of, resting}
+use Rattle.sdb_client.specs.Client.{ClientAt as Client, IsIdle, Taking, gives, holding, with_rows_read, plan_of, resting}
 use Rattle.sdb_client.specs.Step.{AnsweredAtOnce, Begins, CommitEnds, CommitGoesOn, CommitStarts, IsReadAt, IsVacuumAt, LosesCommit, ReadConflicts, ReadEnds, ReadFails, ReadGoesOn, ReadKnown, ReadStarts, Receives, RollsBack, Step, Takes, VacuumEnds, VacuumGoesOn, VacuumStarts}
 use Rattle.law_clients.specs.About.{AreListed, IsListed}
 use Rattle.law_clients.specs.States.{IsAfter, IsAskedBy, IsFitted, IsFittedBy, IsUsing, IsUsingTxn}

@@ -157,3 +157,4 @@ others_silent events c d e apart by = executed_more c events e ∙ silent e by
     silent (event.Clock moment) by = refl
     silent (event.Idle b) by = refl
     silent (event.Land number store q how r) by = absurd by
+    silent (event.Alter table column kind altered) by = absurd by

@@ -36,6 +36,7 @@ use Rattle.law_clients.proofs.Answered.{commit_ends, said_later, story_answers, 
 use Rattle.law_clients.proofs.Bodies.{body_read}
 use Rattle.law_clients.proofs.Histories.{story_stays}
 use Rattle.law_clients.proofs.HistoryTurns.{client_stands}
+use Rattle.law_clients.specs.Catalogs.{catalog_at_begin}
 use Rattle.law_clients.specs.Invariant.{ClientInvariant, EndedOk, IsOpenOf, InsideOk, IsClosed, IsCommitting, RunInvariant, IsInner, IsMild, IsRunning, IsWaiting, OpenedOk, RanOk}
 use Rattle.law_clients.specs.Progress.{FinishesOn}
 use Rattle.law_clients.specs.ReadSets.{IsMadeSince}
@@ -49,7 +50,7 @@ use Rattle.sdb_types.proofs.Public.{and_false as no_second, clash, some_is}
 
 ---- one client
 
-module _ (catalog : List Table) (fit : Tables → Bool) (events : List Event) (sys : SystemAt) (doing : ℕ → Option Statement) (g : RunInvariant catalog fit events sys doing) (c : ℕ) where
+module _ (catalog : List Table) (fit : List Table → Tables → Bool) (events : List Event) (sys : SystemAt) (doing : ℕ → Option Statement) (g : RunInvariant catalog fit events sys doing) (c : ℕ) where
   abbrev x : ClientHistory
   x = one.x catalog fit events sys doing g c
 
@@ -281,7 +282,17 @@ module _ (catalog : List Table) (fit : Tables → Bool) (events : List Event) (s
         made_now : ReadMade (calls_since (events ++ answered_q.event ∷ []) c w.0.accepted) a next_read
         made_now = since_read events c w.0.accepted a s store request how reply now (Some b) taken_before made_before asked.asked asked.can
 
-        inside_then : InsideOk catalog fit (answered_q ∷ g.past) (opened_as x.rest held_then_read.0).2 (ran n)
+        -- the tables with which its transaction began are those of the moment
+        abbrev under : List Table
+        under = catalog_at_begin catalog (answered_q ∷ g.past) (number c n)
+
+        abbrev tables_now : List Table
+        tables_now = one.tables_now catalog fit events sys doing g c
+
+        under_now : under ≡ tables_now
+        under_now = one.under_now catalog fit events sys doing g c answered_q (read_plain s reply) i read_id (client_at (Reading i seen a s) at_read).0
+
+        inside_then : InsideOk under (fit under) (answered_q ∷ g.past) (opened_as x.rest held_then_read.0).2 (ran n)
         inside_then = (open_ran answered_q (read_plain s reply) (opened_as x.rest held_then_read.0).0 (opened_as x.rest held_then_read.0).1 (opened_as x.rest held_then_read.0).2 (opened_as x.rest held_then_read.0).3).inside
 
         -- with what the read was done with
@@ -289,8 +300,8 @@ module _ (catalog : List Table) (fit : Tables → Bool) (events : List Event) (s
           system_noted : SystemOk g.plan (answered_q ∷ g.past) (with_client sys c (Open i (with_read seen a images)))
           system_noted = subst (SystemOk g.plan (answered_q ∷ g.past)) (twice sys c (Reading i seen a next_read) (Open i (with_read seen a images))) (read_set g.plan (answered_q ∷ g.past) (with_client sys c (Reading i seen a next_read)) c i seen a images (record { ok = system_read m; at = here (Reading i seen a next_read) ∙ ap (Reading i seen a) done }) may)
 
-          body_noted : BodyOk catalog fit (ran n).body (ran n).answers (with_read seen a images)
-          body_noted = body_read (answered_q ∷ g.past) catalog fit (ran n).body (ran n).answers seen a images (subst (SeenOk (answered_q ∷ g.past)) held_then_read.2 inside_then.seen) (subst (BodyOk catalog fit (ran n).body (ran n).answers) held_then_read.2 inside_then.body)
+          body_noted : BodyOk under (fit under) (ran n).body (ran n).answers (with_read seen a images)
+          body_noted = body_read (answered_q ∷ g.past) under (fit under) (ran n).body (ran n).answers seen a images (subst (SeenOk (answered_q ∷ g.past)) held_then_read.2 inside_then.seen) (subst (BodyOk under (fit under) (ran n).body (ran n).answers) held_then_read.2 inside_then.body)
 
           notes_done : FinishesOn a images b → RecordsRead (events ++ answered_q.event ∷ []) c s_now a images
           notes_done finishes = notes_read events c answered_q.event s_now b a images (refl, refl) refl finishes (client_at (Reading i seen a s) at_read).2 (subst (ReadMade (calls_since (events ++ answered_q.event ∷ []) c w.0.accepted) a) done made_now)
@@ -342,7 +353,7 @@ module _ (catalog : List Table) (fit : Tables → Bool) (events : List Event) (s
             run = record { seen = with_read seen a images; now = (ran n).now; body = (ran n).body; answers = (ran n).answers }
 
         -- from the rows that the read was done with
-        pub going_tells : (images : List Record) (changes : List Keyed) → is_answered_from_rows b ≡ true → next_read ≡ Done images → MayRecord seen a images → IsCovered (with_read seen a images) a → AnswersOn catalog fit (with_read seen a images) st a b changes → AreChanges (with_read seen a images).read_set changes
+        pub going_tells : (images : List Record) (changes : List Keyed) → is_answered_from_rows b ≡ true → next_read ≡ Done images → MayRecord seen a images → IsCovered (with_read seen a images) a → AnswersOn tables_now (fit tables_now) (with_read seen a images) st a b changes → AreChanges (with_read seen a images).read_set changes
             → RunInvariant catalog fit (events ++ call_event y (Some b) ∷ []) (with_client sys c (Open i (with_written (with_read seen a images) changes))) (at doing c None)
         going_tells images changes rows done may covered answers valid = turned catalog fit events sys next doing g c None answered_q (record {
           plan = g.plan;
@@ -357,7 +368,7 @@ module _ (catalog : List Table) (fit : Tables → Bool) (events : List Event) (s
               (subst (ClientOk g.plan (answered_q ∷ g.past) c) (here (Open i read)) ((system_noted m.0 images done may).each c)).1
               (subst (ClientOk g.plan (answered_q ∷ g.past) c) (here (Open i written)) (system_written.each c)).1
               (body_noted m.0 images done may)
-              covered answers w.2 m.1 read_untaken;
+              covered (subst (λ (ts : List Table). AnswersOn ts (fit ts) read st a b changes) (sym under_now) answers) w.2 m.1 read_untaken;
           as_read = one.read_noted catalog fit events sys doing g c answered_q plain s_now b refl m.0 w.3.commit is_said_read held_then_read.0 i seen (Reading i seen a s) at_read (λ u h. h)
               (record { seen = written; now = (ran n).now; body = (ran n).body ++ st ∷ []; answers = (ran n).answers ++ b ∷ [] }) a images changes held_then_read.2
               (notes_done m.0 images done may (λ ms made. rows_finish ms b rows)) refl;

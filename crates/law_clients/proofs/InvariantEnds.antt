@@ -1,13 +1,12 @@
 -- Where the events end, what ties them to the clients is what a run owes them.
-use Rattle.std.proofs.Common.{◌≡◌, ◌<◌, ◌≤◌, ◌+◌, ◌-◌, ◌*◌, ◌/◌, ◌%◌, ◌^◌, ℕ, zero, suc, Bool, true, false, List, [], ◌∷◌, ◌++◌, length, map, Option, Some, None, IfSome, refl, sym, ap, ◌∙◌, subst, arith}
+use Rattle.std.proofs.Common.{◌≡◌, ◌<◌, ◌≤◌, ◌+◌, ◌-◌, ◌*◌, ◌/◌, ◌%◌, ◌^◌, ℕ, suc, Bool, true, false, List, [], ◌∷◌, ◌++◌, length, map, Option, Some, None, IfSome, refl, sym, ap, ◌∙◌, subst, arith}
 use Rattle.std.specs.Prelude.{◌&&◌, All, Contains, filter, slice_index_or, if◌then◌else◌}
 use Rattle.std.specs.List.{AllByRecursion}
 use Rattle.std.proofs.lemmas.List.{append_assoc}
 use Rattle.std.proofs.lemmas.Nat.{div-add-mod'}
-use Rattle.sdb_record.specs.Coordinator.{coordinator_key_of}
-use Rattle.law_clients.specs.Types.{Event, Place, Point, Script, Statement, Table, TableDump}
+use Rattle.law_clients.specs.Types.{Event, Point, Script, Statement, Table, TableDump}
 use Rattle.sdb_model.specs.declared.answer.Answer.TheVariants as answer
-use Rattle.sdb_model.specs.Events.{IsTrace, StoreContents}
+use Rattle.sdb_model.specs.Events.{IsTrace}
 use Rattle.sdb_model.specs.Exec.{Tables}
 use Rattle.sdb_model.specs.Follows.{Follows}
 use Rattle.sdb_model.specs.Serial.{IsRun}
@@ -15,12 +14,10 @@ use Rattle.sdb_model.specs.Transactions.{IsOrder, Recorded, Executed, begins, cl
 use Rattle.sdb_model.specs.Sql.{reads_begin, reads_commit}
 use Rattle.law_protocol.specs.Explained.{IsRunOf, events_of, newest_first}
 use Rattle.law_protocol.specs.Faithful.{AreReadSets}
-use Rattle.sdb_record.specs.declared.coordinator.Decision.TheVariants.{Committed}
-use Rattle.law_protocol.specs.History.{History}
 use Rattle.law_protocol.specs.Lawful.{Labelled, id, protocol_state}
 use Rattle.law_protocol.specs.Plan.{Plan}
-use Rattle.law_protocol.specs.Trace.{IsTraced, closing, history}
-use Rattle.law_protocol.proofs.Public.{recorded_row, traced_of, whole_of}
+use Rattle.law_protocol.specs.Trace.{IsTraced, closing}
+use Rattle.law_protocol.proofs.Public.{traced_of}
 use Rattle.law_clients.specs.Progress.{Ending, outcome_with}
 use Rattle.law_clients.specs.System.{SystemAt}
 use Rattle.law_clients.proofs.Begin.{accepted_begun}
@@ -36,27 +33,15 @@ use Rattle.law_clients.proofs.Faith.{beyond}
 use Rattle.law_clients.proofs.Files.{accepted_counts}
 use Rattle.law_clients.proofs.Notes.{are_noted}
 use Rattle.law_clients.proofs.Places.{finished_inside, story_kept, story_same}
+use Rattle.law_clients.specs.Body.{BodyOk}
+use Rattle.law_clients.proofs.Catalogs.{point_catalog}
+use Rattle.law_clients.proofs.Ends.{all_by, index_map, length_ids, taken_of}
 use Rattle.law_clients.proofs.Run.{linked_run}
 use Rattle.law_clients.proofs.HistoryTurns.{body_is_said}
 use Rattle.law_clients.specs.Invariant.{RunInvariant, OpenedOk, RanOk}
 use Rattle.law_clients.specs.ReadSets.{ReadSetInside, ReadSetOpened}
 use Rattle.law_clients.proofs.InvariantOwn.{finished, over}
 use Rattle.sdb_types.proofs.Public.{and_false as no_second, none_some}
-
----- a recorded transaction's COMMIT was accepted
-
-taken_of : (plan : ℕ → Plan) (places : List Place) (opening : List StoreContents) (past : List Labelled) (ss : List (List StoreContents)) (t : ℕ) → IsRunOf plan places opening past ss → t < 2 ^ 128 → Recorded places (closing opening ss) (id t) → (protocol_state past).accepted t ≡ true
-taken_of plan places opening past ss t run fits recorded = by ((protocol_state past).accepted t) refl
-  where
-    w : History
-    w = history plan places opening past ss
-
-    row : w.row t ≡ Some Committed
-    row = recorded_row plan places w past (closing opening ss) t (whole_of plan places opening past ss run) fits recorded
-
-    by : (b : Bool) → (protocol_state past).accepted t ≡ b → b ≡ true
-    by true e = refl
-    by false e = absurd (((whole_of plan places opening past ss run).all.one.accepted t (coordinator_key_of (id t)) 0 (ap (λ (x : Rattle.law_protocol.specs.History.ProtocolState). x.accepted t) (sym (whole_of plan places opening past ss run).knows.talks) ∙ e)).4 row)
 
 ---- what it ran
 
@@ -65,13 +50,13 @@ last_at [] f = refl
 last_at (g ∷ fs) f = last_at fs f
 
 -- What is so of a transaction, with its body as the texts have it.
-pub record Ran (catalog : List Table) (fit : Tables → Bool) (plan : ℕ → Plan) (events : List Event) (past : List Labelled) (t : ℕ) (r : Execution) : Type 0 where
+pub record Ran (catalog : List Table) (fit : List Table → Tables → Bool) (plan : ℕ → Plan) (events : List Event) (past : List Labelled) (t : ℕ) (r : Execution) : Type 0 where
   pub inside : List Executed
   pub body : statements_inside events (id t) ≡ inside
   pub ok : RanOk catalog fit plan past t inside r
   pub as_read : ReadSetInside events (client_of (id t)) inside r.seen
 
-module _ (catalog : List Table) (fit : Tables → Bool) (events : List Event) (sys : SystemAt) (doing : ℕ → Option Statement) (g : RunInvariant catalog fit events sys doing) where
+module _ (catalog : List Table) (fit : List Table → Tables → Bool) (events : List Event) (sys : SystemAt) (doing : ℕ → Option Statement) (g : RunInvariant catalog fit events sys doing) where
   -- of a client's transaction whose COMMIT was accepted
   ran_by : (c k : ℕ) → client_of (id (number c k)) ≡ c → ordinal_of (id (number c k)) ≡ suc k → suc k < 2 ^ 64 → (protocol_state g.past).accepted (number c k) ≡ true → Ran catalog fit g.plan events g.past (number c k) (g.ran c k)
   ran_by c k client ordinal small accepted = by (txn_ended_at x.whole k) refl
@@ -159,10 +144,11 @@ module _ (catalog : List Table) (fit : Tables → Bool) (events : List Event) (s
       whole : number (t / 2 ^ 64) (t % 2 ^ 64 - 1) ≡ t
       whole = ap (λ m. t / 2 ^ 64 * 2 ^ 64 + m) (sym ordinal) ∙ div-add-mod' t (2 ^ 64)
 
-  done : (t : ℕ) → (protocol_state g.past).accepted t ≡ true → ExecutionOk catalog fit g.plan g.past t (ran_of t) × BodyIsExecuted events t (ran_of t)
-  done t accepted =
+  -- what it ran, under the tables of its point
+  pub executed_at : (t : ℕ) → (protocol_state g.past).accepted t ≡ true → ExecutionOk catalog fit g.plan g.past t (ran_of t) × BodyIsExecuted events t (ran_of t)
+  executed_at t accepted =
       let r = ran_at t accepted in
-      (record { seen = r.ok.inside.seen; planned = r.ok.planned accepted; body = r.ok.inside.body }, body_is_said events t r.inside (ran_of t) (ap (filter is_effective) r.body) r.ok.inside.executed)
+      (record { seen = r.ok.inside.seen; planned = r.ok.planned accepted; body = subst (λ (ts : List Table). BodyOk ts (fit ts) (ran_of t).body (ran_of t).answers (ran_of t).seen) (sym (point_catalog g.plan catalog g.past g.system.lawful g.at_rest t accepted)) r.ok.inside.body }, body_is_said events t r.inside (ran_of t) (ap (filter is_effective) r.body) r.ok.inside.executed)
 
   -- the plans' notes are what the statements noted
   pub invariant_is_read_sets : AreReadSets g.plan events g.past
@@ -172,22 +158,9 @@ module _ (catalog : List Table) (fit : Tables → Bool) (events : List Event) (s
 
 ---- points
 
-all_by : {A : Type 0} (P : A → Type 0) (xs : List A) → All P xs → AllByRecursion P xs
-all_by P [] all = tt
-all_by P (x ∷ xs) all = (all 0 x (omega arith), all_by P xs (λ k d l. all (suc k) d (omega (arith, l))))
-
 all_ids : (P : ℕ → Type 0) (ps : List Point) → AllByRecursion (λ (p : Point). P p.id.0) ps → AllByRecursion P (ordinals_of ps)
 all_ids P [] all = tt
 all_ids P (p ∷ ps) all = (all.0, all_ids P ps all.1)
-
-index_map : (ps : List Point) (k : ℕ) (d e : Point) → k < length ps → slice_index_or (map (λ (p : Point). p.id) ps) k e.id ≡ (slice_index_or ps k d).id
-index_map [] k d e l = absurd (omega (arith, l))
-index_map (p ∷ ps) zero d e l = refl
-index_map (p ∷ ps) (suc k) d e l = index_map ps k d e (omega (arith, l))
-
-length_ids : (ps : List Point) → length (map (λ (p : Point). p.id) ps) ≡ length ps
-length_ids [] = refl
-length_ids (p ∷ ps) = ap suc (length_ids ps)
 
 -- Events of any number of clients that are tied to them, follow a script's moves, and agree with stores whose tables began empty, are a run.
 pub invariant_is_run : (script : Script) (e : Ending script) → (tables : List TableDump) × IsRun script e.opening e.closing (outcome_with e tables)
@@ -218,5 +191,5 @@ invariant_is_run script e =
       stories = subst (λ ps. Rattle.law_clients.specs.History.AllStories (events_of e.running.labelled) ps e.sys e.running.answered) e.running.turned (subst (λ es. Rattle.law_clients.specs.History.AllStories es e.running.past e.sys e.running.answered) e.running.same e.running.stories);
       bodies = subst (λ ps. Rattle.law_clients.specs.Left.AllBodiesExecuted script.catalog e.fit e.running.plan (events_of e.running.labelled) ps (ran_of script.catalog e.fit e.events e.sys e.doing e.running) (ordinals_of e.order)) e.running.turned (subst (λ es. Rattle.law_clients.specs.Left.AllBodiesExecuted script.catalog e.fit e.running.plan es e.running.past (ran_of script.catalog e.fit e.events e.sys e.doing e.running) (ordinals_of e.order)) e.running.same
           (all_ids (λ t. ExecutionOk script.catalog e.fit e.running.plan e.running.past t (ran_of script.catalog e.fit e.events e.sys e.doing e.running t) × BodyIsExecuted e.events t (ran_of script.catalog e.fit e.events e.sys e.doing e.running t)) e.order
-          (all_by (λ (p : Point). ExecutionOk script.catalog e.fit e.running.plan e.running.past p.id.0 (ran_of script.catalog e.fit e.events e.sys e.doing e.running p.id.0) × BodyIsExecuted e.events p.id.0 (ran_of script.catalog e.fit e.events e.sys e.doing e.running p.id.0)) e.order (λ k d l. done script.catalog e.fit e.events e.sys e.doing e.running (slice_index_or e.order k d).id.0 (accepted k d l)))));
+          (all_by (λ (p : Point). ExecutionOk script.catalog e.fit e.running.plan e.running.past p.id.0 (ran_of script.catalog e.fit e.events e.sys e.doing e.running p.id.0) × BodyIsExecuted e.events p.id.0 (ran_of script.catalog e.fit e.events e.sys e.doing e.running p.id.0)) e.order (λ k d l. executed_at script.catalog e.fit e.events e.sys e.doing e.running (slice_index_or e.order k d).id.0 (accepted k d l)))));
     }

@@ -140,7 +140,7 @@ below fs k f e = subst (λ n. k < n) (plus (length fs)) (within fs k f 0 e)
     plus : (n : ℕ) → n + 0 ≡ n
     plus n = omega arith
 
-pub ended_at : (catalog : List Table) (fit : Tables → Bool) (plan : ℕ → Plan) (past : List Labelled) (c : ℕ) (whole : List Finished) (ran : ℕ → Execution) (r : Execution) → EndedOk catalog fit plan past c whole ran → EndedOk catalog fit plan past c whole (at ran (length whole) r)
+pub ended_at : (catalog : List Table) (fit : List Table → Tables → Bool) (plan : ℕ → Plan) (past : List Labelled) (c : ℕ) (whole : List Finished) (ran : ℕ → Execution) (r : Execution) → EndedOk catalog fit plan past c whole ran → EndedOk catalog fit plan past c whole (at ran (length whole) r)
 ended_at catalog fit plan past c whole ran r ok k f e = subst (RanOk catalog fit plan past (number c k) f.body) (sym (ran_before ran (length whole) k r (below whole k f e))) (ok k f e)
 
 ---- a story with a statement more
@@ -182,7 +182,7 @@ settled_begin x s gap e n = ap telling_of (ap (λ r. settle x.whole r s) e ∙ a
 
 ---- what is so of the client then
 
-module _ (catalog : List Table) (fit : Tables → Bool) (plan : ℕ → Plan) (past : List Labelled) (c : ℕ) (d : Option Statement) (y : ClientAt) (x : ClientHistory) (ran : ℕ → Execution) where
+module _ (catalog : List Table) (fit : List Table → Tables → Bool) (plan : ℕ → Plan) (past : List Labelled) (c : ℕ) (d : Option Statement) (y : ClientAt) (x : ClientHistory) (ran : ℕ → Execution) where
   -- its open transaction has run this, and one statement more was said inside of it
   pub goes_inside : (s : Executed) (gap : List Executed) (b : Executed) (body : List Executed) (r : Execution) → x.rest ≡ Opened gap b body → ends s ≡ false → EndedOk catalog fit plan past c x.whole ran
       → RanOk catalog fit plan past (number c (length x.whole)) (body ++ s ∷ []) r → IsOpenOf d (telling_of (inside x gap b body s)) r y → ClientInvariant catalog fit plan past c d y (with_answered x s) (at ran (length x.whole) r)

@@ -120,6 +120,7 @@ other_call c d n (event.Stop client) ne is = refl
 other_call c d n (event.Clock m) ne is = refl
 other_call c d n (event.Idle client) ne is = refl
 other_call c d n (event.Land number store q how r) ne is = absurd is
+other_call c d n (event.Alter table column kind altered) ne is = absurd is
 
 pub silent_call : (c n : ℕ) (e : Event) → IsSilent e → call_made c n e ≡ []
 silent_call c n (event.Clock m) is = refl
@@ -128,6 +129,7 @@ silent_call c n (event.Take d text a) is = absurd is
 silent_call c n (event.Call d store q how r a) is = absurd is
 silent_call c n (event.Stop d) is = absurd is
 silent_call c n (event.Land number store q how r) is = absurd is
+silent_call c n (event.Alter table column kind altered) is = absurd is
 
 pub own_call : (c n : ℕ) (store : Name) (q : Request) (how : How) (r : Reply) (a : Option Answer) → call_made c n (event.Call c store q how r a) ≡ record { at = n; store = store; request = q; how = how; reply = r } ∷ []
 own_call c n store q how r a = ap (λ b. cons_option (if b then Some (record { at = n; store = store; request = q; how = how; reply = r }) else None) []) (by c)

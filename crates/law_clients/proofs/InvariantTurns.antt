@@ -17,7 +17,7 @@ use Rattle.sdb_phases.specs.Checks.{checks}
 use Rattle.sdb_phases.specs.Commit.{Stage, Preparing, Checking, Deciding, Forward, Stopping, Back, Over, preparing}
 use Rattle.sdb_snapshot.specs.Seen.{Seen, nothing, with_written}
 use Rattle.sdb_snapshot.specs.Written.{AreChanges}
-use Rattle.law_clients.specs.Reads.{SeenOk, with_read, work_of}
+use Rattle.law_clients.specs.Reads.{OpenOk, SeenOk, with_read, work_of}
 use Rattle.law_clients.specs.Owner.{plan_of}
 use Rattle.law_clients.specs.ReadAt.{Asking, IsOfData}
 use Rattle.law_clients.specs.Vacuum.{Scanning}
@@ -36,7 +36,10 @@ use Rattle.law_clients.proofs.Answered.{commit_ends, said_at_once, story_answers
 use Rattle.law_clients.proofs.Bodies.{body_begins, body_step}
 use Rattle.law_clients.proofs.Histories.{SameOf, executed_more, same_of, story_stays}
 use Rattle.law_clients.proofs.HistoryTurns.{begun_stands, client_stands, said_nothing_more, said_one_more}
-use Rattle.law_clients.specs.Invariant.{ClientInvariant, EndedOk, IsOpenOf, IsClosed, RunInvariant, IsInner, IsMild, LeavesAtOnce, OpenedOk, RanOk}
+use Rattle.sdb_model.specs.Catalogs.{catalog_after}
+use Rattle.law_clients.specs.Catalogs.{catalog_at_begin}
+use Rattle.law_clients.proofs.Catalogs.{begin_same, live_catalog, now_after}
+use Rattle.law_clients.specs.Invariant.{ClientInvariant, EndedOk, IsOpenOf, InsideOk, IsClosed, RunInvariant, IsInner, IsMild, LeavesAtOnce, OpenedOk, RanOk}
 use Rattle.law_clients.specs.ReadSets.{ReadSetsOfClient, ReadSetInside, IsMadeSince}
 use Rattle.law_clients.proofs.OtherClients.{ended_later, inside_later, kept_apart, turned}
 use Rattle.law_clients.proofs.Mild.{effective_by, mild_begins, mild_ends, nothing_mild, rows_mild, uncommitted}
@@ -47,7 +50,7 @@ use Rattle.sdb_types.proofs.Public.{and_false as no_second, clash, itself as sam
 
 ---- one client
 
-module _ (catalog : List Table) (fit : Tables → Bool) (events : List Event) (sys : SystemAt) (doing : ℕ → Option Statement) (g : RunInvariant catalog fit events sys doing) (c : ℕ) where
+module _ (catalog : List Table) (fit : List Table → Tables → Bool) (events : List Event) (sys : SystemAt) (doing : ℕ → Option Statement) (g : RunInvariant catalog fit events sys doing) (c : ℕ) where
   abbrev pub x : ClientHistory
   x = g.answered c
 
@@ -62,6 +65,18 @@ module _ (catalog : List Table) (fit : Tables → Bool) (events : List Event) (s
 
   pub story : HistoryInvariant events g.past sys c x
   story = g.stories c
+
+  -- the tables of the moment
+  abbrev pub tables_now : List Table
+  tables_now = catalog_after catalog events
+
+  -- Its open transaction began under them, while it goes on.
+  pub under_now : (q : Labelled) → IsPlainRole q.action → (i : TxId) → i.0 ≡ number c n → OpenOk (protocol_state g.past) c i.0 → catalog_at_begin catalog (q ∷ g.past) (number c n) ≡ tables_now
+  under_now q plain i its o =
+      begin_same catalog q g.past (number c n) (same_of g.past q (number c n) (plain_not (number c n) q.action plain)).begun
+      ∙ ap (catalog_at_begin catalog g.past) (sym its)
+      ∙ live_catalog catalog g.past g.at_rest i.0 o.is_open (ap (protocol_state g.past).stopped o.owner ∙ o.goes_on)
+      ∙ now_after catalog g.labelled g.past events g.same g.turned
 
   pub agrees : (y : ClientAt) → sys.clients c ≡ y → IsInState g.plan g.past sys c y
   agrees y e = record { ok = g.system; at = e }
@@ -156,7 +171,7 @@ module _ (catalog : List Table) (fit : Tables → Bool) (events : List Event) (s
       story = told_on;
       own = goes_begun catalog fit g.plan (q ∷ g.past) c None (next.clients c) x ran s gap nothing_ran closed starts
           (ended_later catalog fit g.plan g.plan g.past q c x.whole ran same before was.ended)
-          (record { inside = record { seen = seen_nothing (q ∷ g.past); body = body_begins catalog fit; executed = record { read = tt; answered = refl } }; planned = λ h. clash (still_untaken h) })
+          (record { inside = record { seen = seen_nothing (q ∷ g.past); body = body_begins (catalog_at_begin catalog (q ∷ g.past) (number c n)) (fit (catalog_at_begin catalog (q ∷ g.past) (number c n))); executed = record { read = tt; answered = refl } }; planned = λ h. clash (still_untaken h) })
           (subst (IsOpenOf None (telling_of (begun x gap s)) nothing_ran) (sym next_here) (tt, refl, refl));
       as_read = noted_begun events c q.event (sys.clients c) x ran (g.as_read c) (next.clients c) s gap nothing_ran closed starts refl;
     })
@@ -231,7 +246,8 @@ module _ (catalog : List Table) (fit : Tables → Bool) (events : List Event) (s
     opened : (r : Rest) → x.rest ≡ r → OpenedOk catalog fit g.plan g.past (number c n) r (ran n) → OpenedOk catalog fit plan (q_taken ∷ g.past) (number c n) r run
     opened (Closed statements_by) e ok = tt
     opened (Opened statements_by b body) e ok = record {
-      inside = record { seen = (inside_later catalog fit g.past q_taken body (ran n) ok.inside).seen; body = ok.inside.body; executed = record { read = ok.inside.executed.read; answered = ok.inside.executed.answered } };
+      inside = subst (λ ts. InsideOk ts (fit ts) (q_taken ∷ g.past) body run) (sym (begin_same catalog q_taken g.past (number c n) refl))
+          (record { seen = (inside_later (catalog_at_begin catalog g.past (number c n)) (fit (catalog_at_begin catalog g.past (number c n))) g.past q_taken body (ran n) ok.inside).seen; body = ok.inside.body; executed = record { read = ok.inside.executed.read; answered = ok.inside.executed.answered } });
       planned = λ h. ap plan (sym its_number) ∙ planned_here ∙ ap (λ t. plan_of (work_of (id t) now seen)) its_number ∙ ap (λ z. plan_of (work_of (id (number c n)) now z)) (sym here_now.2);
     }
 
@@ -362,6 +378,10 @@ module _ (catalog : List Table) (fit : Tables → Bool) (events : List Event) (s
     parts : (gap : List Executed) × (b : Executed) × (body : List Executed) × (x.rest ≡ Opened gap b body)
     parts = opened_as x.rest opened
 
+    -- the tables with which its transaction began
+    abbrev under : List Table
+    under = catalog_at_begin catalog (q ∷ g.past) (number c n)
+
     goes_on : ends s ≡ false
     goes_on = mild_ends s b said_so m no_commit
 
@@ -420,7 +440,7 @@ module _ (catalog : List Table) (fit : Tables → Bool) (events : List Event) (s
     }) e
 
     -- it changed nothing, and what it read is noted
-    pub kept_own : (read : Seen) → changes_nothing b ≡ true → SeenOk (q ∷ g.past) read → BodyOk catalog fit (ran n).body (ran n).answers read → (protocol_state g.past).accepted (number c n) ≡ false
+    pub kept_own : (read : Seen) → changes_nothing b ≡ true → SeenOk (q ∷ g.past) read → BodyOk under (fit under) (ran n).body (ran n).answers read → (protocol_state g.past).accepted (number c n) ≡ false
         → ClientInvariant catalog fit g.plan (q ∷ g.past) c None ((with_client sys c (Open i read)).clients c) (with_answered x s) (at ran n (record { seen = read; now = (ran n).now; body = (ran n).body; answers = (ran n).answers }))
     kept_own read idle known body fresh = inside_own (record { seen = read; now = (ran n).now; body = (ran n).body; answers = (ran n).answers }) read (record {
       inside = record { seen = known; body = body; executed = let was = said_nothing_more parts.2 s (ran n) before_it.inside.executed (effective_by s b true said_so idle) in record { read = was.read; answered = was.answered } };
@@ -428,12 +448,12 @@ module _ (catalog : List Table) (fit : Tables → Bool) (events : List Event) (s
     }) refl
 
     -- it was answered from rows of an access that was read, and its changes were written
-    pub more_own : (st : Statement) (read : Seen) (a : Access) (changes : List Keyed) → SeenOk (q ∷ g.past) read → SeenOk (q ∷ g.past) (with_written read changes) → BodyOk catalog fit (ran n).body (ran n).answers read → IsCovered read a → AnswersOn catalog fit read st a b changes → Reads s.text st → changes_nothing b ≡ false → (protocol_state g.past).accepted (number c n) ≡ false
+    pub more_own : (st : Statement) (read : Seen) (a : Access) (changes : List Keyed) → SeenOk (q ∷ g.past) read → SeenOk (q ∷ g.past) (with_written read changes) → BodyOk under (fit under) (ran n).body (ran n).answers read → IsCovered read a → AnswersOn under (fit under) read st a b changes → Reads s.text st → changes_nothing b ≡ false → (protocol_state g.past).accepted (number c n) ≡ false
         → ClientInvariant catalog fit g.plan (q ∷ g.past) c None ((with_client sys c (Open i (with_written read changes))).clients c) (with_answered x s) (at ran n (record { seen = with_written read changes; now = (ran n).now; body = (ran n).body ++ st ∷ []; answers = (ran n).answers ++ b ∷ [] }))
     more_own st read a changes known written body covered answers reads effective fresh = inside_own run (with_written read changes) (record {
       inside = record {
         seen = written;
-        body = body_step (q ∷ g.past) catalog fit (ran n).body (ran n).answers read st a b changes body known covered answers;
+        body = body_step (q ∷ g.past) under (fit under) (ran n).body (ran n).answers read st a b changes body known covered answers;
         executed = said_one_more parts.2 s (ran n) run st b before_it.inside.executed (effective_by s b false said_so effective) reads said_so refl refl;
       };
       planned = λ h. clash (sym h ∙ untaken_still);
@@ -502,7 +522,7 @@ module _ (catalog : List Table) (fit : Tables → Bool) (events : List Event) (s
       })
 
       -- a statement that is answered from what was read before
-      pub going_answers : (st : Statement) (a : Access) (changes : List Keyed) → is_answered_from_rows b ≡ true → reads_commit text ≡ false → Reads text st → IsCovered seen a → AnswersOn catalog fit seen st a b changes → AreChanges seen.read_set changes
+      pub going_answers : (st : Statement) (a : Access) (changes : List Keyed) → is_answered_from_rows b ≡ true → reads_commit text ≡ false → Reads text st → IsCovered seen a → AnswersOn tables_now (fit tables_now) seen st a b changes → AreChanges seen.read_set changes
           → RunInvariant catalog fit (events ++ event_of ∷ []) (with_client sys c (Open i (with_written seen changes))) (at doing c None)
       going_answers st a changes rows no_commit reads covered answers valid = turned catalog fit events sys next doing g c None labelled (record {
         plan = g.plan;
@@ -516,13 +536,16 @@ module _ (catalog : List Table) (fit : Tables → Bool) (events : List Event) (s
         own = more_own labelled tt said_of_it b refl m.0 no_commit is_said held.0 i seen (Open i seen) at_open unmoved st seen a changes
             (subst (SeenOk (labelled ∷ g.past)) held.2 (before_it labelled tt said_of_it b refl m.0 no_commit is_said held.0 i seen (Open i seen) at_open unmoved).inside.seen)
             (subst (ClientOk g.plan (labelled ∷ g.past) c) (here (Open i (with_written seen changes))) (system.each c)).1
-            (subst (BodyOk catalog fit (ran n).body (ran n).answers) held.2 (before_it labelled tt said_of_it b refl m.0 no_commit is_said held.0 i seen (Open i seen) at_open unmoved).inside.body)
-            covered answers reads m.1 not_taken;
+            (subst (BodyOk under_it (fit under_it) (ran n).body (ran n).answers) held.2 (before_it labelled tt said_of_it b refl m.0 no_commit is_said held.0 i seen (Open i seen) at_open unmoved).inside.body)
+            covered (subst (λ (ts : List Table). AnswersOn ts (fit ts) seen st a b changes) (sym (under_now labelled tt i its_id (client_at (Open i seen) at_open).0)) answers) reads m.1 not_taken;
         as_read = rows_noted labelled tt said_of_it b refl m.0 no_commit is_said held.0 i seen (Open i seen) at_open unmoved (record { seen = with_written seen changes; now = (ran n).now; body = (ran n).body ++ st ∷ []; answers = (ran n).answers ++ b ∷ [] }) changes held.2 refl refl;
       })
         where
           m : IsMild b × (changes_nothing b ≡ false)
           m = rows_mild b rows
+
+          under_it : List Table
+          under_it = catalog_at_begin catalog (labelled ∷ g.past) (number c n)
 
           next : SystemAt
           next = with_client sys c (Open i (with_written seen changes))

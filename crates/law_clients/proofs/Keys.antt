@@ -1,21 +1,19 @@
 -- The keys that a plan's changes are of are those that its statement writes on plain tables.
-use Rattle.std.proofs.Common.{◌≡◌, Bool, true, false, not, ◌||◌, List, [], ◌∷◌, ◌++◌, map, length, Some, refl, sym, ap, ◌∙◌, arith}
+use Rattle.std.proofs.Common.{◌≡◌, Bool, true, false, not, ◌||◌, List, [], ◌∷◌, ◌++◌, map, length, Some, refl, sym, ap, ◌∙◌}
 use Rattle.std.specs.Prelude.{filter, if◌then◌else◌, is_some, nat_lt}
 use Rattle.std.specs.Option.{option_map_or}
 use Rattle.std.specs.List.{list_all, list_any}
 use Rattle.std.specs.FinMap.{get}
-use Rattle.std.proofs.lemmas.Bool.{and_from, and_parts, eq-eqb}
 use Rattle.std.proofs.lemmas.List.{length-map}
-use Rattle.law_clients.specs.Types.{Column, Image, Key, Keyed, Pair, Statement, Table, Value, Write}
+use Rattle.law_clients.specs.Types.{Image, Key, Keyed, Statement, Table, Write}
 use Rattle.sdb_types.specs.Order.{same_key}
-use Rattle.sdb_schema.specs.Table.{is_table, order_names}
-use Rattle.sdb_schema.specs.Rows.{fits_table, are_values_of, is_value_of, is_stored_in}
-use Rattle.sdb_model.specs.Rows.{Name}
+use Rattle.sdb_schema.specs.Table.{is_table}
+use Rattle.sdb_schema.specs.Rows.{fits_table}
 use Rattle.sdb_model.specs.declared.statement.Statement.TheVariants as statement
 use Rattle.sdb_model.specs.Access.{rows_at}
 use Rattle.sdb_model.specs.Exec.{Tables, all_rows, exec, is_row_of, key_of, named_table, passes, with_named}
 use Rattle.sdb_model.specs.Serial.{run_body}
-use Rattle.sdb_exec.specs.Plans.{are_shaped, changes_on, has_shape, put_row}
+use Rattle.sdb_exec.specs.Plans.{are_shaped, changes_on, put_row}
 use Rattle.sdb_model.specs.Reads.{access_of}
 use Rattle.sdb_exec.proofs.Public.{all_shaped, found_at, passing}
 use Rattle.sdb_snapshot.specs.Reads.{ReadRecord}

@@ -9,6 +9,7 @@ mod Replan
 mod Rows
 mod Seen
 mod Clients
+mod Catalogs
 mod Commit
 mod Work
 mod Take
@@ -49,6 +50,7 @@ mod Landings
 mod Rests
 mod InvariantEnds
 mod RowsFit
+mod SameTables
 mod Accepted
 mod Finishing
 mod Asked

@@ -147,7 +147,7 @@ client_live plan past c t x doing r (RunsVacuum v) ok is opened hold runs = clos
 client_live plan past c t x doing r Stopped ok is opened hold runs = clash (sym ok ∙ runs)
 
 -- What is open by the texts is open by the actions, and began at the same event.
-live_now : (catalog : List Table) (fit : Tables → Bool) (plan : ℕ → Plan) (events : List Event) (past : List Labelled) (sys : SystemAt) (doing : ℕ → Option Statement) (answered : ℕ → ClientHistory) (ran : ℕ → ℕ → Execution)
+live_now : (catalog : List Table) (fit : List Table → Tables → Bool) (plan : ℕ → Plan) (events : List Event) (past : List Labelled) (sys : SystemAt) (doing : ℕ → Option Statement) (answered : ℕ → ClientHistory) (ran : ℕ → ℕ → Execution)
     → SystemOk plan past sys → AllStories events past sys answered → ((c : ℕ) → ClientInvariant catalog fit plan past c (doing c) (sys.clients c) (answered c) (ran c)) → ((c : ℕ) → has_stopped c events ≡ false → (protocol_state past).stopped c ≡ false) → AreLive events past
 live_now catalog fit plan events past sys doing answered ran ok stories clients runs t began at unended on = (
   (says events past t (λ c. story_files plan events past sys c (answered c) ok (stories c)) (λ c accepted. no_first plan past sys c ok accepted)).begun began at,
@@ -202,7 +202,7 @@ agrees_more labelled q agrees live owned = record {
     all n l = omega (arith, l, length-append labelled (q ∷ []))
 
 -- after one more, from what holds then of the rules, the histories and the clients
-pub agrees_then : (catalog : List Table) (fit : Tables → Bool) (plan : ℕ → Plan) (events : List Event) (labelled : List Labelled) (q : Labelled) (past : List Labelled) (sys : SystemAt) (doing : ℕ → Option Statement) (answered : ℕ → ClientHistory) (ran : ℕ → ℕ → Execution)
+pub agrees_then : (catalog : List Table) (fit : List Table → Tables → Bool) (plan : ℕ → Plan) (events : List Event) (labelled : List Labelled) (q : Labelled) (past : List Labelled) (sys : SystemAt) (doing : ℕ → Option Statement) (answered : ℕ → ClientHistory) (ran : ℕ → ℕ → Execution)
     → events ≡ events_of (labelled ++ q ∷ []) → past ≡ newest_first (labelled ++ q ∷ []) → AgreesOnOpen labelled
     → SystemOk plan past sys → AllStories events past sys answered → ((c : ℕ) → ClientInvariant catalog fit plan past c (doing c) (sys.clients c) (answered c) (ran c)) → AgreesOnOpen (labelled ++ q ∷ [])
 agrees_then catalog fit plan events labelled q past sys doing answered ran same turned agrees ok stories clients = agrees_more labelled q agrees

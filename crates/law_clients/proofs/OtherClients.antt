@@ -10,6 +10,8 @@ use Rattle.law_protocol.specs.History.{at}
 use Rattle.law_protocol.specs.Lawful.{Labelled, protocol_state}
 use Rattle.law_protocol.specs.Plan.{Plan}
 use Rattle.law_clients.specs.System.{IsBy, SamePlans, SystemAt, SystemOk}
+use Rattle.law_clients.specs.Catalogs.{IsAtRest, catalog_at_begin}
+use Rattle.law_clients.proofs.Catalogs.{begin_same, by_rest}
 use Rattle.law_clients.proofs.Seen.{seen_later}
 use Rattle.law_clients.specs.Filed.{number}
 use Rattle.law_clients.specs.Left.{Execution}
@@ -41,23 +43,23 @@ newest_more labelled q = newest_from [] labelled q
 pub inside_later : (catalog : List Table) (fit : Tables → Bool) (past : List Labelled) (q : Labelled) (inside : List Executed) (r : Execution) → InsideOk catalog fit past inside r → InsideOk catalog fit (q ∷ past) inside r
 inside_later catalog fit past q inside r ok = record { seen = seen_later past q r.seen ok.seen; body = ok.body; executed = ok.executed }
 
-pub ran_later : (catalog : List Table) (fit : Tables → Bool) (plan next : ℕ → Plan) (past : List Labelled) (q : Labelled) (t : ℕ) (inside : List Executed) (r : Execution) → SamePlans plan next past → SameOf t (protocol_state past) (protocol_state (q ∷ past)) → RanOk catalog fit plan past t inside r → RanOk catalog fit next (q ∷ past) t inside r
+pub ran_later : (catalog : List Table) (fit : List Table → Tables → Bool) (plan next : ℕ → Plan) (past : List Labelled) (q : Labelled) (t : ℕ) (inside : List Executed) (r : Execution) → SamePlans plan next past → SameOf t (protocol_state past) (protocol_state (q ∷ past)) → RanOk catalog fit plan past t inside r → RanOk catalog fit next (q ∷ past) t inside r
 ran_later catalog fit plan next past q t inside r same s ok = record {
-  inside = inside_later catalog fit past q inside r ok.inside;
+  inside = subst (λ ts. InsideOk ts (fit ts) (q ∷ past) inside r) (sym (begin_same catalog q past t s.begun)) (inside_later (catalog_at_begin catalog past t) (fit (catalog_at_begin catalog past t)) past q inside r ok.inside);
   planned = λ h. let was : (protocol_state past).accepted t ≡ true = sym s.accepted ∙ h in sym (same t was) ∙ ok.planned was;
 }
 
 ---- the transactions of a client, later
 
-pub ended_later : (catalog : List Table) (fit : Tables → Bool) (plan next : ℕ → Plan) (past : List Labelled) (q : Labelled) (c : ℕ) (whole : List Finished) (ran : ℕ → Execution) → SamePlans plan next past → ((k : ℕ) (f : Finished) → txn_ended_at whole k ≡ Some f → SameOf (number c k) (protocol_state past) (protocol_state (q ∷ past))) → EndedOk catalog fit plan past c whole ran → EndedOk catalog fit next (q ∷ past) c whole ran
+pub ended_later : (catalog : List Table) (fit : List Table → Tables → Bool) (plan next : ℕ → Plan) (past : List Labelled) (q : Labelled) (c : ℕ) (whole : List Finished) (ran : ℕ → Execution) → SamePlans plan next past → ((k : ℕ) (f : Finished) → txn_ended_at whole k ≡ Some f → SameOf (number c k) (protocol_state past) (protocol_state (q ∷ past))) → EndedOk catalog fit plan past c whole ran → EndedOk catalog fit next (q ∷ past) c whole ran
 ended_later catalog fit plan next past q c whole ran same s ok k f e = ran_later catalog fit plan next past q (number c k) f.body (ran k) same (s k f e) (ok k f e)
 
-pub opened_later : (catalog : List Table) (fit : Tables → Bool) (plan next : ℕ → Plan) (past : List Labelled) (q : Labelled) (t : ℕ) (rest : Rest) (r : Execution) → SamePlans plan next past → (IsOpened rest → SameOf t (protocol_state past) (protocol_state (q ∷ past))) → OpenedOk catalog fit plan past t rest r → OpenedOk catalog fit next (q ∷ past) t rest r
+pub opened_later : (catalog : List Table) (fit : List Table → Tables → Bool) (plan next : ℕ → Plan) (past : List Labelled) (q : Labelled) (t : ℕ) (rest : Rest) (r : Execution) → SamePlans plan next past → (IsOpened rest → SameOf t (protocol_state past) (protocol_state (q ∷ past))) → OpenedOk catalog fit plan past t rest r → OpenedOk catalog fit next (q ∷ past) t rest r
 opened_later catalog fit plan next past q t (Closed gap) r same s ok = tt
 opened_later catalog fit plan next past q t (Opened gap b body) r same s ok = ran_later catalog fit plan next past q t body r same (s tt) ok
 
 -- an event that is apart from a client's transactions leaves what is so of each
-pub kept_apart : (catalog : List Table) (fit : Tables → Bool) (plan next : ℕ → Plan) (events : List Event) (past : List Labelled) (sys : SystemAt) (q : Labelled) (c : ℕ) (x : ClientHistory) (ran : ℕ → Execution) → SamePlans plan next past → HistoryInvariant events past sys c x → IsApart past c q.action
+pub kept_apart : (catalog : List Table) (fit : List Table → Tables → Bool) (plan next : ℕ → Plan) (events : List Event) (past : List Labelled) (sys : SystemAt) (q : Labelled) (c : ℕ) (x : ClientHistory) (ran : ℕ → Execution) → SamePlans plan next past → HistoryInvariant events past sys c x → IsApart past c q.action
     → EndedOk catalog fit plan past c x.whole ran → OpenedOk catalog fit plan past (number c (length x.whole)) x.rest (ran (length x.whole))
     → EndedOk catalog fit next (q ∷ past) c x.whole ran × OpenedOk catalog fit next (q ∷ past) (number c (length x.whole)) x.rest (ran (length x.whole))
 kept_apart catalog fit plan next events past sys q c x ran same story apart ended opened = (
@@ -68,7 +70,7 @@ kept_apart catalog fit plan next events past sys q c x ran same story apart ende
 ---- one event more
 
 -- What holds after one event more: the rules and what all know, each client's history, its transactions, and what these have read.
-pub record Preserved (catalog : List Table) (fit : Tables → Bool) (events : List Event) (sys next : SystemAt) (doing runs : ℕ → Option Statement) (g : RunInvariant catalog fit events sys doing) (q : Labelled) : Type 0 where
+pub record Preserved (catalog : List Table) (fit : List Table → Tables → Bool) (events : List Event) (sys next : SystemAt) (doing runs : ℕ → Option Statement) (g : RunInvariant catalog fit events sys doing) (q : Labelled) : Type 0 where
   pub plan : ℕ → Plan
   pub answered : ℕ → ClientHistory
   pub ran : ℕ → ℕ → Execution
@@ -76,9 +78,10 @@ pub record Preserved (catalog : List Table) (fit : Tables → Bool) (events : Li
   pub stories : AllStories (events ++ q.event ∷ []) (q ∷ g.past) next answered
   pub clients : (c : ℕ) → ClientInvariant catalog fit plan (q ∷ g.past) c (runs c) (next.clients c) (answered c) (ran c)
   pub as_read : (c : ℕ) → ReadSetsOfClient (events ++ q.event ∷ []) c (next.clients c) (answered c) (ran c)
+  pub at_rest : IsAtRest g.past q.event
 
 -- the invariant then
-pub preserved : (catalog : List Table) (fit : Tables → Bool) (events : List Event) (sys next : SystemAt) (doing runs : ℕ → Option Statement) (g : RunInvariant catalog fit events sys doing) (q : Labelled) → Preserved catalog fit events sys next doing runs g q → RunInvariant catalog fit (events ++ q.event ∷ []) next runs
+pub preserved : (catalog : List Table) (fit : List Table → Tables → Bool) (events : List Event) (sys next : SystemAt) (doing runs : ℕ → Option Statement) (g : RunInvariant catalog fit events sys doing) (q : Labelled) → Preserved catalog fit events sys next doing runs g q → RunInvariant catalog fit (events ++ q.event ∷ []) next runs
 preserved catalog fit events sys next doing runs g q p = record {
   plan = p.plan;
   labelled = g.labelled ++ q ∷ [];
@@ -92,6 +95,7 @@ preserved catalog fit events sys next doing runs g q p = record {
   clients = p.clients;
   as_read = p.as_read;
   agrees = agrees_then catalog fit p.plan (events ++ q.event ∷ []) g.labelled q (q ∷ g.past) next runs p.answered p.ran same newest g.agrees p.system p.stories p.clients;
+  at_rest = (g.at_rest, p.at_rest);
 }
   where
     same : events ++ q.event ∷ [] ≡ events_of (g.labelled ++ q ∷ [])
@@ -103,7 +107,7 @@ preserved catalog fit events sys next doing runs g q p = record {
 ---- a turn
 
 -- What one turn of a client owes: the rules and what all know, its story, its own transactions, and what these have read.
-pub record Turn (catalog : List Table) (fit : Tables → Bool) (events : List Event) (sys next : SystemAt) (doing : ℕ → Option Statement) (g : RunInvariant catalog fit events sys doing) (c : ℕ) (d : Option Statement) (q : Labelled) : Type 0 where
+pub record Turn (catalog : List Table) (fit : List Table → Tables → Bool) (events : List Event) (sys next : SystemAt) (doing : ℕ → Option Statement) (g : RunInvariant catalog fit events sys doing) (c : ℕ) (d : Option Statement) (q : Labelled) : Type 0 where
   pub plan : ℕ → Plan
   pub x : ClientHistory
   pub ran : ℕ → Execution
@@ -115,7 +119,7 @@ pub record Turn (catalog : List Table) (fit : Tables → Bool) (events : List Ev
   pub own : ClientInvariant catalog fit plan (q ∷ g.past) c d (next.clients c) x ran
   pub as_read : ReadSetsOfClient (events ++ q.event ∷ []) c (next.clients c) x ran
 
-pub turned : (catalog : List Table) (fit : Tables → Bool) (events : List Event) (sys next : SystemAt) (doing : ℕ → Option Statement) (g : RunInvariant catalog fit events sys doing) (c : ℕ) (d : Option Statement) (q : Labelled) → Turn catalog fit events sys next doing g c d q → RunInvariant catalog fit (events ++ q.event ∷ []) next (at doing c d)
+pub turned : (catalog : List Table) (fit : List Table → Tables → Bool) (events : List Event) (sys next : SystemAt) (doing : ℕ → Option Statement) (g : RunInvariant catalog fit events sys doing) (c : ℕ) (d : Option Statement) (q : Labelled) → Turn catalog fit events sys next doing g c d q → RunInvariant catalog fit (events ++ q.event ∷ []) next (at doing c d)
 turned catalog fit events sys next doing g c d q t = preserved catalog fit events sys next doing (at doing c d) g q (record {
   plan = t.plan;
   answered = with_history g.answered c t.x;
@@ -124,6 +128,7 @@ turned catalog fit events sys next doing g c d q t = preserved catalog fit event
   stories = stories_turn t.plan events g.past sys next c q g.answered t.x t.system t.by t.others g.stories t.story;
   clients = λ e. on e (e == c) refl;
   as_read = λ e. noted_on e (e == c) refl;
+  at_rest = by_rest g.past c q.event t.by;
 })
   where
     is : (e c : ℕ) → (e == c) ≡ true → c ≡ e

@@ -29,6 +29,7 @@ quiet_occurs plan past (event.Call d store ask how r answered) q = q
 quiet_occurs plan past (event.Stop d) q = q
 quiet_occurs plan past (event.Clock moment) q = q
 quiet_occurs plan past (event.Idle d) q = q
+quiet_occurs plan past (event.Alter table column kind altered) q = q
 quiet_occurs plan past (event.Land number store ask how r) q = apart_bools (sym q)
 
 pub quiet_turn : (plan : ℕ → Plan) (past : List Labelled) (sys : SystemAt) (e : Event) → SystemOk plan past sys → IsQuiet e → SystemOk plan (labelled_with Other e ∷ past) sys

@@ -6,6 +6,7 @@ use Rattle.law_clients.specs.Types.{Access, Answer, Doing, Event, Key, Keyed, Pl
 use Rattle.sdb_types.specs.Exactness.{span_is_exact}
 use Rattle.sdb_record.specs.declared.access.Access.TheVariants as access
 use Rattle.sdb_schema.specs.Catalog.{is_catalog}
+use Rattle.sdb_model.specs.Catalogs.{catalog_after}
 use Rattle.sdb_model.specs.declared.answer.Answer.TheVariants as answer
 use Rattle.sdb_model.specs.Causes.{refused}
 use Rattle.sdb_model.specs.Refused.{refusal_by}
@@ -94,15 +95,15 @@ ended (Ended r) o e n = ap Ended e
 pub at_itself : {X : Type 0} (f : ℕ → X) (c : ℕ) (x : X) → at f c x c ≡ x
 at_itself f c x = ap (λ (b : Bool). if b then x else f c) (same_number c)
 
-module _ (catalog : List Table) (events : List Event) (states : ℕ → ClientState) (g : RunInvariant catalog (tables_are_well_typed catalog) events (system_of states) (doing_of states)) (y : ClientCall) (is : is_catalog catalog ≡ true) (called : IsCalled catalog states y) where
+module _ (catalog tables : List Table) (events : List Event) (current : tables ≡ catalog_after catalog events) (states : ℕ → ClientState) (g : RunInvariant catalog tables_are_well_typed events (system_of states) (doing_of states)) (y : ClientCall) (is : is_catalog tables ≡ true) (called : IsCalled tables states y) where
   abbrev pub now : Client
   now = (states y.client).client
 
   -- what ties them is so with the event of the call
   abbrev pub RepliedSo : Option Answer → Client → Type 0
-  RepliedSo result d = IsSo catalog (tables_are_well_typed catalog) states y.client d (events ++ call_event y result ∷ [])
+  RepliedSo result d = IsSo catalog tables_are_well_typed states y.client d (events ++ call_event y result ∷ [])
 
-  module _ (t : TxnAt) (p : Planned) (a : Access) (x : ReadAt) (free : now.vacuum ≡ None) (some : now.txn ≡ Some t) (reads : t.doing ≡ doing.Read a x) (plan : now.plan ≡ Some p) (k : IsAskedBy catalog p a x) where
+  module _ (t : TxnAt) (p : Planned) (a : Access) (x : ReadAt) (free : now.vacuum ≡ None) (some : now.txn ≡ Some t) (reads : t.doing ≡ doing.Read a x) (plan : now.plan ≡ Some p) (k : IsAskedBy tables p a x) where
     here : (system_of states).clients y.client ≡ Reading t.id t.seen a (abstract_read x.stage)
     here = rw (called.waiting.goes_on, free, some, reads) refl
 
@@ -120,19 +121,19 @@ module _ (catalog : List Table) (events : List Event) (states : ℕ → ClientSt
     runs_it = ap (λ (o : Option Planned). option_map (λ (q : Planned). q.statement) o) plan
 
     valid : IsValidPlan p
-    valid = record { asked = k.asked; table = named_is_table catalog p.statement p.table is k.named; accepted = sym (ap (λ (o : Option Table). refusal_by o p.statement) k.named) ∙ k.accepted; literals = k.literals }
+    valid = record { asked = k.asked; table = named_is_table tables p.statement p.table is k.named; accepted = sym (ap (λ (o : Option Table). refusal_by o p.statement) k.named) ∙ k.accepted; literals = k.literals }
 
     -- the read goes on
     abbrev read_then : laws.ReadAt
     read_then = laws.read_step (abstract_read x.stage) y.now y.reply
 
-    running : RunInvariant catalog (tables_are_well_typed catalog) (events ++ call_event y None ∷ []) (with_client (system_of states) y.client (Reading t.id t.seen a read_then)) (at (doing_of states) y.client (doing_of states y.client))
-    running = going_reads catalog (tables_are_well_typed catalog) events (system_of states) (doing_of states) g y.client y.store y.request y.how y.reply y.now t.id t.seen a (abstract_read x.stage) here asked
+    running : RunInvariant catalog tables_are_well_typed (events ++ call_event y None ∷ []) (with_client (system_of states) y.client (Reading t.id t.seen a read_then)) (at (doing_of states) y.client (doing_of states y.client))
+    running = going_reads catalog tables_are_well_typed events (system_of states) (doing_of states) g y.client y.store y.request y.how y.reply y.now t.id t.seen a (abstract_read x.stage) here asked
 
     pub reads_on : (s : ReadStage) → read_step x.stage y.now y.reply ≡ s → RepliedSo None (record now { txn = Some (record t { doing = doing.Read a (record x { stage = s }) }) })
     reads_on s e =
-        moved catalog (tables_are_well_typed catalog) states y.client (record now { txn = Some (record t { doing = doing.Read a (record x { stage = s }) }) }) (events ++ call_event y None ∷ []) free refl
-        (subst (λ (z : laws.ReadAt). RunInvariant catalog (tables_are_well_typed catalog) (events ++ call_event y None ∷ []) (with_client (system_of states) y.client (Reading t.id t.seen a z)) (at (doing_of states) y.client (doing_of states y.client)))
+        moved catalog tables_are_well_typed states y.client (record now { txn = Some (record t { doing = doing.Read a (record x { stage = s }) }) }) (events ++ call_event y None ∷ []) free refl
+        (subst (λ (z : laws.ReadAt). RunInvariant catalog tables_are_well_typed (events ++ call_event y None ∷ []) (with_client (system_of states) y.client (Reading t.id t.seen a z)) (at (doing_of states) y.client (doing_of states y.client)))
         (sym (machine_steps x.stage y.now y.reply) ∙ ap abstract_read e) running)
 
     -- it is answered as one that changes nothing, and its read has not finished
@@ -141,8 +142,8 @@ module _ (catalog : List Table) (events : List Event) (states : ℕ → ClientSt
 
     fails : (b : Answer) → changes_nothing b ≡ true → Unfinished b → RepliedSo (Some b) (holding now (idle_of t))
     fails b nothing unfinished =
-        moved catalog (tables_are_well_typed catalog) states y.client (holding now (idle_of t)) (events ++ call_event y (Some b) ∷ []) free refl
-        (going_fails catalog (tables_are_well_typed catalog) events (system_of states) (doing_of states) g y.client y.store y.request y.how y.reply y.now t.id t.seen a (abstract_read x.stage) here asked b p.statement runs_it nothing unfinished)
+        moved catalog tables_are_well_typed states y.client (holding now (idle_of t)) (events ++ call_event y (Some b) ∷ []) free refl
+        (going_fails catalog tables_are_well_typed events (system_of states) (doing_of states) g y.client y.store y.request y.how y.reply y.now t.id t.seen a (abstract_read x.stage) here asked b p.statement runs_it nothing unfinished)
 
     -- its access is of tables
     of_data : laws.IsOfData a
@@ -174,8 +175,8 @@ module _ (catalog : List Table) (events : List Event) (states : ℕ → ClientSt
     -- a key that was read differs
     pub differs : (key : Key) (found : Option Record) → RepliedSo (Some (answer.Conflict key found)) (resting now)
     differs key found =
-        moved catalog (tables_are_well_typed catalog) states y.client (resting now) (events ++ call_event y (Some (answer.Conflict key found)) ∷ []) free refl
-        (going_differs catalog (tables_are_well_typed catalog) events (system_of states) (doing_of states) g y.client y.store y.request y.how y.reply y.now t.id t.seen a (abstract_read x.stage) here asked (answer.Conflict key found) p.statement runs_it refl)
+        moved catalog tables_are_well_typed states y.client (resting now) (events ++ call_event y (Some (answer.Conflict key found)) ∷ []) free refl
+        (going_differs catalog tables_are_well_typed events (system_of states) (doing_of states) g y.client y.store y.request y.how y.reply y.now t.id t.seen a (abstract_read x.stage) here asked (answer.Conflict key found) p.statement runs_it refl)
 
     -- the read is done
     module _ (images : List Record) (ends : read_step x.stage y.now y.reply ≡ Ended (step.Images images)) (as_read : IsAsRead t a images) where
@@ -203,11 +204,11 @@ module _ (catalog : List Table) (events : List Event) (states : ℕ → ClientSt
       is_known v b ks n gave rows =
           let h : step_of p (overlay (access_of p.table p.statement) seen) ≡ Finished b ks = step_seen v b ks n gave in
           let changes : AreChanges seen.read_set ks = subst (MayWrite seen.read_set) h (may_write seen p valid kept (subst (IsKeyRead seen.read_set) k.access (key_read_now t.seen a images))) in
-          let answers : AnswersOn catalog (tables_are_well_typed catalog) seen p.statement a b ks = subst (λ (q : Access). AnswersOn catalog (tables_are_well_typed catalog) seen p.statement q b ks) (sym k.access) (answers_on catalog p seen is k.named k.asked k.accepted k.literals h) in
-          moved catalog (tables_are_well_typed catalog) states y.client (holding now (written v ks)) (events ++ call_event y (Some b) ∷ []) free refl
-          (subst (λ (z : ClientAt). RunInvariant catalog (tables_are_well_typed catalog) (events ++ call_event y (Some b) ∷ []) (with_client (system_of states) y.client z) (at (doing_of states) y.client None)) (sym by_doing)
-          (going_tells catalog (tables_are_well_typed catalog) events (system_of states) (doing_of states) g y.client y.store y.request y.how y.reply y.now t.id t.seen a (abstract_read x.stage) here asked b p.statement runs_it images ks
-          rows done (may_note t a images as_read) (covered_now t.seen a images) answers changes))
+          let answers : AnswersOn tables (tables_are_well_typed tables) seen p.statement a b ks = subst (λ (q : Access). AnswersOn tables (tables_are_well_typed tables) seen p.statement q b ks) (sym k.access) (answers_on tables p seen is k.named k.asked k.accepted k.literals h) in
+          moved catalog tables_are_well_typed states y.client (holding now (written v ks)) (events ++ call_event y (Some b) ∷ []) free refl
+          (subst (λ (z : ClientAt). RunInvariant catalog tables_are_well_typed (events ++ call_event y (Some b) ∷ []) (with_client (system_of states) y.client z) (at (doing_of states) y.client None)) (sym by_doing)
+          (going_tells catalog tables_are_well_typed events (system_of states) (doing_of states) g y.client y.store y.request y.how y.reply y.now t.id t.seen a (abstract_read x.stage) here asked b p.statement runs_it images ks
+          rows done (may_note t a images as_read) (covered_now t.seen a images) (subst (λ (ts : List Table). AnswersOn ts (tables_are_well_typed ts) seen p.statement a b ks) current answers) changes))
         where
           by_doing : abstract_txn (Some (written v ks)) ≡ Open t.id (with_written seen ks)
           by_doing = rw n.idle (λ i. Open (n.id i) (with_written (n.seen i) ks))
@@ -215,9 +216,9 @@ module _ (catalog : List Table) (events : List Event) (states : ℕ → ClientSt
       -- it is answered as one that changes nothing, and what it read stays noted
       keeps : (v : TxnAt) (b : Answer) → IsNoting t a images v → changes_nothing b ≡ true → FinishesOn a images b → RepliedSo (Some b) (holding now v)
       keeps v b n nothing finishes =
-          moved catalog (tables_are_well_typed catalog) states y.client (holding now v) (events ++ call_event y (Some b) ∷ []) free refl
-          (subst (λ (z : ClientAt). RunInvariant catalog (tables_are_well_typed catalog) (events ++ call_event y (Some b) ∷ []) (with_client (system_of states) y.client z) (at (doing_of states) y.client None)) (sym by_doing)
-          (going_keeps catalog (tables_are_well_typed catalog) events (system_of states) (doing_of states) g y.client y.store y.request y.how y.reply y.now t.id t.seen a (abstract_read x.stage) here asked b p.statement runs_it images nothing finishes done
+          moved catalog tables_are_well_typed states y.client (holding now v) (events ++ call_event y (Some b) ∷ []) free refl
+          (subst (λ (z : ClientAt). RunInvariant catalog tables_are_well_typed (events ++ call_event y (Some b) ∷ []) (with_client (system_of states) y.client z) (at (doing_of states) y.client None)) (sym by_doing)
+          (going_keeps catalog tables_are_well_typed events (system_of states) (doing_of states) g y.client y.store y.request y.how y.reply y.now t.id t.seen a (abstract_read x.stage) here asked b p.statement runs_it images nothing finishes done
           (may_note t a images as_read)))
         where
           by_doing : abstract_txn (Some v) ≡ Open t.id seen

@@ -1,6 +1,5 @@
 -- A call of a recovery is one that the rules of the protocol let through, and its image is a record that a read may come to.
 use Rattle.std.proofs.Common.{◌≡◌, ℕ, ℤ, true, List, ◌∷◌, Option, Some, None, refl, sym, ap, subst, ◌∙◌, arith, inl, inr, Ok, Result}
-use Rattle.std.specs.Prelude.{if◌then◌else◌}
 use Rattle.std.proofs.lemmas.Bool.Decides.{nat_tests}
 use Rattle.law_clients.specs.Types.{Answer, Decided, Decision, How, Key, Meta, Record, RecoverPhase, RecoverStep, Reply, Request}
 use Rattle.sdb_types.specs.declared.record.Reply.TheVariants as reply

@@ -160,7 +160,7 @@ taken_before h r t e = grind (arith, nat_tests)
 pub taken_now : (h : ProtocolState) (t : ℕ) → (state_after_event h (Takes t)).accepted t ≡ true
 taken_now h t = grind (arith, nat_tests)
 
-ended_taken : (h : ProtocolState) (o : Option ℕ) (t : ℕ) → (ended h o).accepted t ≡ h.accepted t
+pub ended_taken : (h : ProtocolState) (o : Option ℕ) (t : ℕ) → (ended h o).accepted t ≡ h.accepted t
 ended_taken h None t = refl
 ended_taken h (Some u) t = refl
 
@@ -189,6 +189,7 @@ occur_other plan other past (event.Call c store q how reply answered) r l same m
 occur_other plan other past (event.Stop c) r l same m = play_other plan other past (event.Stop c) r l same m
 occur_other plan other past (event.Clock moment) r l same m = play_other plan other past (event.Clock moment) r l same m
 occur_other plan other past (event.Idle c) r l same m = play_other plan other past (event.Idle c) r l same m
+occur_other plan other past (event.Alter table column kind altered) r l same m = play_other plan other past (event.Alter table column kind altered) r l same m
 occur_other plan other past (event.Land number store q how reply) r l same m = m
 
 -- The rules so far hold with other plans too, as long as those of the transactions whose COMMIT was accepted are the same.

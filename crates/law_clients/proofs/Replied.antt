@@ -5,6 +5,7 @@ use Rattle.std.specs.Option.{option_map}
 use Rattle.law_clients.specs.Types.{Access, Answer, Doing, Event, Key, Outcome, Reply, Span, Statement, Table, VacuumStep, ValidateStep}
 use Rattle.sdb_types.proofs.Public.{some_is}
 use Rattle.sdb_schema.specs.Catalog.{is_catalog}
+use Rattle.sdb_model.specs.Catalogs.{catalog_after}
 use Rattle.sdb_model.specs.declared.answer.Answer.TheVariants as answer
 use Rattle.sdb_model.specs.Exec.{find_table}
 use Rattle.sdb_exec.specs.Plans.{Planned}
@@ -83,12 +84,12 @@ ended_is (Stopping b n) a e = absurd (cc)
 ended_is (Back b n i) a e = absurd (cc)
 ended_is (Over b) a e = cc
 
-module _ (catalog : List Table) (events : List Event) (states : ℕ → ClientState) (g : RunInvariant catalog (tables_are_well_typed catalog) events (system_of states) (doing_of states)) (y : ClientCall) (is : is_catalog catalog ≡ true) (called : IsCalled catalog states y) where
+module _ {catalog tables : List Table} {events : List Event} (current : tables ≡ catalog_after catalog events) {states : ℕ → ClientState} (g : RunInvariant catalog tables_are_well_typed events (system_of states) (doing_of states)) (y : ClientCall) (is : is_catalog tables ≡ true) (called : IsCalled tables states y) where
   abbrev now : Client
   now = (states y.client).client
 
   abbrev Replied : Option Answer → Client → Type 0
-  Replied result d = RepliedSo catalog events states g y is called result d
+  Replied result d = RepliedSo catalog tables events current states g y is called result d
 
   module _ (t : TxnAt) (k : CommitAt) (free : now.vacuum ≡ None) (some : now.txn ≡ Some t) (commits : t.doing ≡ doing.Commit k) (none : now.plan ≡ None) where
     here : (system_of states).clients y.client ≡ Committing k.work k.stage
@@ -106,14 +107,14 @@ module _ (catalog : List Table) (events : List Event) (states : ℕ → ClientSt
 
     -- the events are tied to the client where it then is
     abbrev Goes : Option Answer → ClientAt → Type 0
-    Goes b z = RunInvariant catalog (tables_are_well_typed catalog) (events ++ call_event y b ∷ []) (with_client (system_of states) y.client z) (at (doing_of states) y.client None)
+    Goes b z = RunInvariant catalog tables_are_well_typed (events ++ call_event y b ∷ []) (with_client (system_of states) y.client z) (at (doing_of states) y.client None)
 
     goes : Goes (answer_at then_at) (commit_left k.work then_at)
-    goes = going_commit_calls catalog (tables_are_well_typed catalog) events (system_of states) (doing_of states) g y.client y.store y.request y.how y.reply y.now k.work k.stage here asked
+    goes = going_commit_calls catalog tables_are_well_typed events (system_of states) (doing_of states) g y.client y.store y.request y.how y.reply y.now k.work k.stage here asked
 
     is_over : (a : Outcome) → then_at ≡ Over a → Replied (Some (answer_of_outcome a)) (resting now)
     is_over a e =
-        moved catalog (tables_are_well_typed catalog) states y.client (resting now) (events ++ call_event y (Some (answer_of_outcome a)) ∷ []) free refl
+        moved catalog tables_are_well_typed states y.client (resting now) (events ++ call_event y (Some (answer_of_outcome a)) ∷ []) free refl
         (subst (λ (s : Stage). Goes (answer_at s) (commit_left k.work s)) e goes)
 
     further : (s : Stage) → then_at ≡ s → ended_at s ≡ None → Goes None (Committing k.work s)
@@ -128,8 +129,8 @@ module _ (catalog : List Table) (events : List Event) (states : ℕ → ClientSt
     -- its conflict may be answered as out of memory
     further_starved : ended_at then_at ≡ None → Goes None (Committing k.work (out_of_memory_stage then_at))
     further_starved n =
-        subst (λ z. RunInvariant catalog (tables_are_well_typed catalog) (events ++ call_event y None ∷ []) z (at (doing_of states) y.client None)) (twice (system_of states) y.client (Committing k.work then_at) (Committing k.work (out_of_memory_stage then_at)))
-        (going_starves catalog (tables_are_well_typed catalog) (events ++ call_event y None ∷ []) (with_client (system_of states) y.client (Committing k.work then_at)) (at (doing_of states) y.client None) (further then_at refl n) y.client k.work then_at
+        subst (λ z. RunInvariant catalog tables_are_well_typed (events ++ call_event y None ∷ []) z (at (doing_of states) y.client None)) (twice (system_of states) y.client (Committing k.work then_at) (Committing k.work (out_of_memory_stage then_at)))
+        (going_starves catalog tables_are_well_typed (events ++ call_event y None ∷ []) (with_client (system_of states) y.client (Committing k.work then_at)) (at (doing_of states) y.client None) (further then_at refl n) y.client k.work then_at
         (at_itself (system_of states).clients y.client (Committing k.work then_at)))
 
     goes_there : (m : Stage) → ended_at then_at ≡ None → IsNext k.work k.stage y.reply m → Goes None (Committing k.work m)
@@ -144,13 +145,13 @@ module _ (catalog : List Table) (events : List Event) (states : ℕ → ClientSt
 
     goes_on : (u : TxnAt) (m : CommitAt) → u.doing ≡ doing.Commit m → m.work ≡ k.work → IsNext k.work k.stage y.reply m.stage → ended_at then_at ≡ None → Replied None (record now { txn = Some u })
     goes_on u m doing_it same h n =
-        moved catalog (tables_are_well_typed catalog) states y.client (record now { txn = Some u }) (events ++ call_event y None ∷ []) free refl
-        (subst (λ (o : Option Statement). RunInvariant catalog (tables_are_well_typed catalog) (events ++ call_event y None ∷ []) (with_client (system_of states) y.client (abstract_doing u u.doing)) (at (doing_of states) y.client o)) (sym no_run)
+        moved catalog tables_are_well_typed states y.client (record now { txn = Some u }) (events ++ call_event y None ∷ []) free refl
+        (subst (λ (o : Option Statement). RunInvariant catalog tables_are_well_typed (events ++ call_event y None ∷ []) (with_client (system_of states) y.client (abstract_doing u u.doing)) (at (doing_of states) y.client o)) (sym no_run)
         (subst (λ (d : Doing). Goes None (abstract_doing u d)) (sym doing_it) (subst (λ (p : Work). Goes None (Committing p m.stage)) (sym same) (goes_there m.stage n h))))
 
   ---- a call of a VACUUM
 
-  module _ (apart : (k : Key) → is_some (find_table catalog k.table) ≡ true → is_data k ≡ true) (v : VacuumAt) (runs_it : now.vacuum ≡ Some v) (none : now.txn ≡ None) (free : now.plan ≡ None) (listed : AreListed catalog v.spans) where
+  module _ (apart : (k : Key) → is_some (find_table tables k.table) ≡ true → is_data k ≡ true) (v : VacuumAt) (runs_it : now.vacuum ≡ Some v) (none : now.txn ≡ None) (free : now.plan ≡ None) (listed : AreListed tables v.spans) where
     here_sweeps : (system_of states).clients y.client ≡ RunsVacuum (abstract_vacuum v.stage)
     here_sweeps = rw (called.waiting.goes_on, runs_it) refl
 
@@ -169,22 +170,22 @@ module _ (catalog : List Table) (events : List Event) (states : ℕ → ClientSt
     then_machine = vacuum_step v y.now y.reply
 
     abbrev SweepsTo : VacuumModel → Type 0
-    SweepsTo w = RunInvariant catalog (tables_are_well_typed catalog) (events ++ call_event y None ∷ []) (with_client (system_of states) y.client (RunsVacuum w)) (at (doing_of states) y.client None)
+    SweepsTo w = RunInvariant catalog tables_are_well_typed (events ++ call_event y None ∷ []) (with_client (system_of states) y.client (RunsVacuum w)) (at (doing_of states) y.client None)
 
     goes_sweep : SweepsTo (vacuum_model_step (abstract_vacuum v.stage) y.now y.reply)
-    goes_sweep = going_sweeps catalog (tables_are_well_typed catalog) events (system_of states) (doing_of states) g y.client y.store y.request y.how y.reply y.now (abstract_vacuum v.stage) here_sweeps asked_sweep
+    goes_sweep = going_sweeps catalog tables_are_well_typed events (system_of states) (doing_of states) g y.client y.store y.request y.how y.reply y.now (abstract_vacuum v.stage) here_sweeps asked_sweep
 
-    scans_next : (span : Span) → IsListed catalog span.table → SweepsTo (Scanning span)
-    scans_next span is_listed = going_scans catalog (tables_are_well_typed catalog) events (system_of states) (doing_of states) g y.client y.store y.request y.how y.reply y.now (abstract_vacuum v.stage) here_sweeps asked_sweep span (scan_data catalog span is_listed apart)
+    scans_next : (span : Span) → IsListed tables span.table → SweepsTo (Scanning span)
+    scans_next span is_listed = going_scans catalog tables_are_well_typed events (system_of states) (doing_of states) g y.client y.store y.request y.how y.reply y.now (abstract_vacuum v.stage) here_sweeps asked_sweep span (scan_data tables span is_listed apart)
 
     -- another call is pending
     sweeps_on : (w : VacuumAt) → SweepsTo (abstract_vacuum w.stage) → Replied None (record now { vacuum = Some w })
     sweeps_on w h =
-        moved_so catalog (tables_are_well_typed catalog) states y.client (record now { vacuum = Some w }) (events ++ call_event y None ∷ []) refl
-        (subst (λ (o : Option Statement). RunInvariant catalog (tables_are_well_typed catalog) (events ++ call_event y None ∷ []) (with_client (system_of states) y.client (RunsVacuum (abstract_vacuum w.stage))) (at (doing_of states) y.client o)) (sym no_statement) h)
+        moved_so catalog tables_are_well_typed states y.client (record now { vacuum = Some w }) (events ++ call_event y None ∷ []) refl
+        (subst (λ (o : Option Statement). RunInvariant catalog tables_are_well_typed (events ++ call_event y None ∷ []) (with_client (system_of states) y.client (RunsVacuum (abstract_vacuum w.stage))) (at (doing_of states) y.client o)) (sym no_statement) h)
 
-    first_listed : (ss : List Span) (span : Span) (rest : List Span) → ss ≡ span ∷ rest → AreListed catalog ss → IsListed catalog span.table
-    first_listed ss span rest e h = (subst (AreListed catalog) e h).0
+    first_listed : (ss : List Span) (span : Span) (rest : List Span) → ss ≡ span ∷ rest → AreListed tables ss → IsListed tables span.table
+    first_listed ss span rest e h = (subst (AreListed tables) e h).0
 
     more_case : (n : VacuumAt × VacuumStep) → n.1 ≡ step.More → Leads v.spans (vacuum_model_step (abstract_vacuum v.stage) y.now y.reply) n → SweepsTo (abstract_vacuum n.0.stage)
     more_case (w, step.More) e (inl h) = subst SweepsTo (sym h.0) goes_sweep
@@ -197,28 +198,28 @@ module _ (catalog : List Table) (events : List Event) (states : ℕ → ClientSt
     -- it is answered
     swept_so : (b : Answer) → IsMild b → Replied (Some b) (record now { vacuum = None })
     swept_so b mild =
-        moved catalog (tables_are_well_typed catalog) states y.client (record now { vacuum = None }) (events ++ call_event y (Some b) ∷ []) refl refl
-        (subst (λ (o : Option TxnAt). RunInvariant catalog (tables_are_well_typed catalog) (events ++ call_event y (Some b) ∷ []) (with_client (system_of states) y.client (abstract_txn o)) (at (doing_of states) y.client (option_map (λ (p : Planned). p.statement) now.plan))) (sym none)
-        (subst (λ (o : Option Statement). RunInvariant catalog (tables_are_well_typed catalog) (events ++ call_event y (Some b) ∷ []) (with_client (system_of states) y.client Resting) (at (doing_of states) y.client o)) (sym no_statement)
-        (going_swept catalog (tables_are_well_typed catalog) events (system_of states) (doing_of states) g y.client y.store y.request y.how y.reply y.now (abstract_vacuum v.stage) here_sweeps asked_sweep b mild)))
+        moved catalog tables_are_well_typed states y.client (record now { vacuum = None }) (events ++ call_event y (Some b) ∷ []) refl refl
+        (subst (λ (o : Option TxnAt). RunInvariant catalog tables_are_well_typed (events ++ call_event y (Some b) ∷ []) (with_client (system_of states) y.client (abstract_txn o)) (at (doing_of states) y.client (option_map (λ (p : Planned). p.statement) now.plan))) (sym none)
+        (subst (λ (o : Option Statement). RunInvariant catalog tables_are_well_typed (events ++ call_event y (Some b) ∷ []) (with_client (system_of states) y.client Resting) (at (doing_of states) y.client o)) (sym no_statement)
+        (going_swept catalog tables_are_well_typed events (system_of states) (doing_of states) g y.client y.store y.request y.how y.reply y.now (abstract_vacuum v.stage) here_sweeps asked_sweep b mild)))
 
     vacuum_goes : (w : VacuumAt) → Gives then_machine w step.More → Replied None (record now { vacuum = Some w })
     vacuum_goes w h = sweeps_on w (subst (λ (x : VacuumAt). SweepsTo (abstract_vacuum x.stage)) (sym h.0) (more_case then_machine (sym h.1) (step_leads v.spans v.removed v.stage y.now y.reply)))
 
   -- the statement that reads
-  asked_by : (t : TxnAt) (p : Planned) (a : Access) (x : ReadAt) → IsReadAt now y.request t p a x → IsAskedBy catalog p a x
-  asked_by t p a x at = asked_at catalog now y.request y.reply y.now called.waiting.fitted at
+  asked_by : (t : TxnAt) (p : Planned) (a : Access) (x : ReadAt) → IsReadAt now y.request t p a x → IsAskedBy tables p a x
+  asked_by t p a x at = asked_at tables now y.request y.reply y.now called.waiting.fitted at
 
-  pub replies_so : ((k : Key) → is_some (find_table catalog k.table) ≡ true → is_data k ≡ true) → {result : Option Answer} {d : Client} → Step now (Receives y.request y.reply y.now) result d → Replied result d
-  replies_so apart (ReadGoesOn t p a x at more) = reads_on catalog events states g y is called t p a x at.free at.opened at.doing at.plan (asked_by t p a x at) (read_step x.stage y.now y.reply) refl
-  replies_so apart (ReadEnds t p a x images at ends is_asked as_read) = read_ends catalog events states g y is called t p a x at.free at.opened at.doing at.plan (asked_by t p a x at) images ends as_read
-  replies_so apart (ReadConflicts t p a x images key found at ends changed) = differs catalog events states g y is called t p a x at.free at.opened at.doing at.plan (asked_by t p a x at) key found
-  replies_so apart (ReadFails {b = b} t p a x at f) = read_fails catalog events states g y is called t p a x at.free at.opened at.doing at.plan (asked_by t p a x at) b f
+  pub replies_so : ((k : Key) → is_some (find_table tables k.table) ≡ true → is_data k ≡ true) → {result : Option Answer} {d : Client} → Step now (Receives y.request y.reply y.now) result d → Replied result d
+  replies_so apart (ReadGoesOn t p a x at more) = reads_on catalog tables events current states g y is called t p a x at.free at.opened at.doing at.plan (asked_by t p a x at) (read_step x.stage y.now y.reply) refl
+  replies_so apart (ReadEnds t p a x images at ends is_asked as_read) = read_ends catalog tables events current states g y is called t p a x at.free at.opened at.doing at.plan (asked_by t p a x at) images ends as_read
+  replies_so apart (ReadConflicts t p a x images key found at ends changed) = differs catalog tables events current states g y is called t p a x at.free at.opened at.doing at.plan (asked_by t p a x at) key found
+  replies_so apart (ReadFails {b = b} t p a x at f) = read_fails catalog tables events current states g y is called t p a x at.free at.opened at.doing at.plan (asked_by t p a x at) b f
   replies_so apart (CommitGoesOn {u = u} t k next at to) = goes_on t k at.free at.opened at.doing at.plan u (record { work = k.work; stage = next }) to.doing refl to.next to.more
   replies_so apart (CommitEnds t k a at ended) = is_over t k at.free at.opened at.doing at.plan a (ended_is (commit_step k.work k.stage y.reply) a ended)
   replies_so apart (VacuumGoesOn {w = w} v at gave) =
-      let k = vacuum_at catalog now y.request y.reply y.now called.waiting.fitted v at in
+      let k = vacuum_at tables now y.request y.reply y.now called.waiting.fitted v at in
       vacuum_goes apart v at.runs k.0 k.1 k.2 w gave
   replies_so apart (VacuumEnds {b = b} v w s at gave answers) =
-      let k = vacuum_at catalog now y.request y.reply y.now called.waiting.fitted v at in
+      let k = vacuum_at tables now y.request y.reply y.now called.waiting.fitted v at in
       swept_so apart v at.runs k.0 k.1 k.2 b (vacuum_answered s b answers)

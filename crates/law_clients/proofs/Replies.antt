@@ -2,6 +2,7 @@
 use Rattle.std.proofs.Common.{◌≡◌, ℤ, Bool, true, false, List, Option, Some, None, Ok, ◌⊎◌, inl, inr, refl, sym, ap, subst, ◌∙◌, length}
 use Rattle.std.specs.Prelude.{◌+◌, nat_lt, slice_get, if◌then◌else◌}
 use Rattle.std.specs.FinMap.{get}
+use Rattle.law_clients.specs.SessionTurns.{RepliedAlone}
 use Rattle.law_clients.specs.Types.{Access, Answer, Doing, Key, Next, Outcome, Pair, Record, Reply, Request, Statement, Table, TxId, VacuumStep, ValidateStep}
 use Rattle.sdb_types.proofs.Public.{none_some, some_is}
 use Rattle.sdb_record.specs.Meta.{is_moment}
@@ -256,10 +257,15 @@ module _ (catalog : List Table) (apart : IsApart catalog) (was : Database) (soun
   ---- the whole
 
   -- a reply leads a statement that waits on, or to its answer
-  pub replies : Waits catalog was now st g o c → Goal
-  replies (InVacuum v none is runs txn plan alone quiet) = by_step v none is runs txn plan alone quiet (sweep_answered v none is runs txn plan alone quiet).0.step refl
-  replies (Commits b t k s some commit free txn plan does work opened alone) = commit_case b t some free txn k s commit plan does work opened alone (own_fit b s opened)
+  replied : Waits catalog was now st g o c → Goal
+  replied (InVacuum v none is runs txn plan alone quiet) = by_step v none is runs txn plan alone quiet (sweep_answered v none is runs txn plan alone quiet).0.step refl
+  replied (Commits b t k s some commit free txn plan does work opened alone) = commit_case b t some free txn k s commit plan does work opened alone (own_fit b s opened)
     where
       own_fit : (b : OpenTransaction) (s : Seen) → OpenAlone catalog was b.statements b.answers b.id s → (y : Key) (columns : List Pair) → get (with_own d_was s.writes) y ≡ Some columns → row_is_well_typed catalog y columns ≡ true
       own_fit b s opened y columns e = fits_there catalog (with_own d_was s.writes) y columns (opened.body.fits d_was fit_was (agrees_all catalog opened.past was sound_was s opened.seen d_was shows_was)) e
-  replies (Reads b t p a x some free txn plan does of k request id opened alone resolves stays) = read_case b t some free txn p a x plan does of k request id opened alone resolves (sound_stays catalog was g resolves sound_was own_g) stays
+  replied (Reads b t p a x some free txn plan does of k request id opened alone resolves stays) = read_case b t some free txn p a x plan does of k request id opened alone resolves (sound_stays catalog was g resolves sound_was own_g) stays
+
+pub replies : (r : RepliedAlone) → LeadsTo r.catalog r.was r.fresh r.now (Ok r.statement) r.h r.opened r.result r.after
+replies r =
+    let s = r.well_formed in
+    replied r.catalog s.apart r.was s.sound s.tables s.are_images s.fit r.fresh r.now r.time r.statement r.g r.h r.own r.own_then r.request r.reply r.called r.opened r.before r.asked r.result r.after r.took r.waits

@@ -1,20 +1,28 @@
 -- Tables whose rows all fit, and what a plan leaves of them.
 use Rattle.std.proofs.Common.{◌≡◌, Bool, true, false, not, ◌||◌, cond, List, [], ◌∷◌, map, Option, Some, None, refl, sym, ap, ap₂, subst, ◌∙◌}
 use Rattle.std.specs.Prelude.{filter, is_some, unwrap_or}
-use Rattle.std.specs.Option.{option_map_or}
+use Rattle.std.specs.Option.{option_map, option_map_or}
 use Rattle.std.specs.List.{list_all}
 use Rattle.std.specs.Ordering.{is_eq, is_lt}
 use Rattle.std.specs.Cmp.{tied_itself}
 use Rattle.std.specs.FinMap.{empty, entries, entries_sorted, find as find_key, get, get-empty, get-entries, is_sorted}
 use Rattle.std.specs.FinMap.Entries.{below_all}
 use Rattle.std.proofs.lemmas.Bool.{and_parts}
-use Rattle.law_clients.specs.Types.{Answer, Change, Image, Key, Keyed, Pair, Statement, Table, TableName, Test}
+use Rattle.law_clients.specs.Types.{Answer, Change, Event, Image, Key, Keyed, Pair, Statement, Table, TableName, Test}
 use Rattle.sdb_types.specs.Order.{key_cmp, table_cmp}
-use Rattle.sdb_types.proofs.Public.{and_both, and_first, and_second, by_test, key_total, less_of, table_exact, table_total, truth as true_from_T}
+use Rattle.sdb_types.proofs.Public.{and_both, and_first, and_second, by_test, key_total, less_of, some_is, table_exact, table_total, truth as true_from_T}
 use Rattle.sdb_record.specs.declared.write.Change.TheVariants as change
 use Rattle.sdb_record.specs.Rolls.{row_of_change}
-use Rattle.sdb_schema.specs.Catalog.{is_catalog}
+use Rattle.sdb_schema.specs.declared.table.Column.{Column}
+use Rattle.sdb_schema.specs.Added.{grown, grown_if, with_column}
+use Rattle.sdb_schema.specs.Catalog.{is_called, is_catalog}
 use Rattle.sdb_schema.specs.Rows.{fits_table}
+use Rattle.sdb_schema.specs.Table.{has_column}
+use Rattle.sdb_schema.proofs.Public.{fits_still, new_column}
+use Rattle.sdb_model.specs.declared.event.Altered.TheVariants as altered
+use Rattle.sdb_model.specs.declared.event.Event.TheVariants as event
+use Rattle.sdb_model.specs.Catalogs.{added, catalog_after, takes_column, with_added}
+use Rattle.sdb_model.proofs.Public.{find_with, same_tables, taken_by}
 use Rattle.sdb_model.specs.declared.statement.Statement.TheVariants as statement
 use Rattle.sdb_model.specs.Access.{rows_at, with_changes, with_row}
 use Rattle.sdb_model.specs.Exec.{Tables, all_rows, find_table, is_row_of, key_of, named_table, passes, row_of_entry, table_of, with_named}
@@ -82,13 +90,50 @@ no_row catalog k cs h fits = by_found (find_table catalog k.table) h fits
     by_found None h fits = absurd (cc)
     by_found (Some t) h fits = absurd (cc)
 
-pub is_fitting : (catalog : List Table) → ((k : Key) → is_some (find_table catalog k.table) ≡ true → is_data k ≡ true) → IsFitting catalog (tables_are_well_typed catalog)
+found_named : (ts : List Table) (name : TableName) (t : Table) → find_table ts name ≡ Some t → t.name ≡ name
+found_named [] name t h = absurd (cc)
+found_named (u ∷ us) name t h =
+    by_test (is_eq (table_cmp u.name name))
+    (λ e. let k : Some u ≡ Some t = rw e at h in let same : u ≡ t = cc in ap (λ (x : Table). x.name) (sym same) ∙ table_exact u.name name (equal_of (table_cmp u.name name) e))
+    (λ e. found_named us name t (rw e at h))
+
+-- a row that fits goes on to fit when a column is added
+with_fits : (ts : List Table) (n : TableName) (c : Column) (key : Key) (cs : List Pair) → row_is_well_typed ts key cs ≡ true → row_is_well_typed (with_added ts n c) key cs ≡ true
+with_fits ts n c key cs h =
+    by_test (takes_column ts n c)
+    (λ k. ap (λ (b : Bool). row_is_well_typed (cond b (with_column ts n c) ts) key cs) k ∙ ap (λ (o : Option Table). option_map_or (λ (t : Table). fits_table t key cs) o false) (find_with ts n c key.table) ∙ takes k (find_table ts key.table) refl h)
+    (λ k. ap (λ (b : Bool). row_is_well_typed (cond b (with_column ts n c) ts) key cs) k ∙ h)
+  where
+    takes : takes_column ts n c ≡ true → (o : Option Table) → find_table ts key.table ≡ o → option_map_or (λ (t : Table). fits_table t key cs) o false ≡ true → option_map_or (λ (t : Table). fits_table t key cs) (option_map (grown_if n c) o) false ≡ true
+    takes k None e f = f
+    takes k (Some u) e f = elim (is_called n u) as (λ b. is_called n u ≡ b → fits_table (cond b (grown u c) u) key cs ≡ true) [
+      | true ↦ λ q.
+          let t = taken_by ts n c k in
+          let named : u.name ≡ n = table_exact u.name n (equal_of (table_cmp u.name n) q) in
+          let same : u ≡ t.0 = some_is u t.0 (sym e ∙ ap (find_table ts) (sym (found_named ts key.table u e) ∙ named) ∙ t.1) in
+          fits_still u c key cs (subst (λ (x : Table). has_column x.columns c.name ≡ false) (sym same) (new_column t.0 c t.2)) f
+      | false ↦ λ q. f
+    ] refl
+
+added_fits : (ts : List Table) (e : Event) (key : Key) (cs : List Pair) → row_is_well_typed ts key cs ≡ true → row_is_well_typed (added ts e) key cs ≡ true
+added_fits ts (event.Alter table column kind altered.Done) key cs h = with_fits ts table (record { name = column; kind = kind }) key cs h
+added_fits ts (event.Alter table column kind altered.Open) key cs h = h
+added_fits ts (event.Alter table column kind (altered.Refused k)) key cs h = h
+added_fits ts (event.Take client text answer) key cs h = h
+added_fits ts (event.Call client store q how r answer) key cs h = h
+added_fits ts (event.Stop client) key cs h = h
+added_fits ts (event.Clock moment) key cs h = h
+added_fits ts (event.Idle client) key cs h = h
+added_fits ts (event.Land number store q how r) key cs h = h
+
+pub is_fitting : (catalog : List Table) → ((k : Key) → is_some (find_table catalog k.table) ≡ true → is_data k ≡ true) → IsFitting catalog tables_are_well_typed
 is_fitting catalog apart = record {
   starts = there_fits catalog empty (λ q cs found. absurd (let none : get {R = key_cmp} (empty {X = List Pair}) q ≡ None = get-empty key_cmp q in cc));
-  inside = λ d k fit none.
+  grows = λ ts e d fit. there_fits (added ts e) d (λ q cs found. added_fits ts e q cs (fits_there ts d q cs fit found));
+  inside = λ es d k fit none.
       elim (get d k) as (λ o. get d k ≡ o → o ≡ None) [
         | None ↦ λ q. refl
-        | Some cs ↦ λ q. absurd (no_row catalog k cs none (fits_there catalog d k cs fit q))
+        | Some cs ↦ λ q. absurd (no_row (catalog_after catalog es) k cs (same_tables catalog es k.table ∙ none) (fits_there (catalog_after catalog es) d k cs fit q))
       ] refl;
   apart = apart;
 }
@@ -152,13 +197,6 @@ none_unfit t (r ∷ rows) h =
     by_test (fits_table t r.key r.columns)
     (λ q. and_both (fits_table t r.key r.columns) (list_all (λ x. fits_table t x.key x.columns) rows) q (none_unfit t rows (rw q at h)))
     (λ q. absurd (let k = rw q at h in cc))
-
-found_named : (ts : List Table) (name : TableName) (t : Table) → find_table ts name ≡ Some t → t.name ≡ name
-found_named [] name t h = absurd (cc)
-found_named (u ∷ us) name t h =
-    by_test (is_eq (table_cmp u.name name))
-    (λ e. let k : Some u ≡ Some t = rw e at h in let same : u ≡ t = cc in ap (λ (x : Table). x.name) (sym same) ∙ table_exact u.name name (equal_of (table_cmp u.name name) e))
-    (λ e. found_named us name t (rw e at h))
 
 pub found_itself : (catalog : List Table) (o : Option TableName) (t : Table) → option_map_or (find_table catalog) o None ≡ Some t → find_table catalog t.name ≡ Some t
 found_itself catalog None t h = absurd (cc)

@@ -1,7 +1,7 @@
 -- Events that are tied to their clients, and agree with the stores, are a run.
 use Rattle.std.proofs.Common.{◌≡◌, ◌<◌, ◌^◌, Bool, List, sym, subst}
 use Rattle.std.specs.Prelude.{All}
-use Rattle.law_clients.specs.Types.{Point, Script, TableDump}
+use Rattle.law_clients.specs.Types.{Point, Script, Table, TableDump}
 use Rattle.sdb_model.specs.Events.{StoreContents, IsTrace}
 use Rattle.sdb_model.specs.Exec.{Tables}
 use Rattle.sdb_model.specs.Follows.{Follows}
@@ -16,7 +16,7 @@ use Rattle.law_clients.specs.Linked.{HaveStories}
 use Rattle.law_clients.proofs.Ends.{run_told}
 use Rattle.law_clients.proofs.Files.{clients_faithful}
 
-pub linked_run : (script : Script) (fit : Tables → Bool) (labelled : List Labelled) (opening end : List StoreContents) (moments : List (List StoreContents)) (order : List Point) → IsFitting script.catalog fit → HaveStories script.catalog fit labelled order
+pub linked_run : (script : Script) (fit : List Table → Tables → Bool) (labelled : List Labelled) (opening end : List StoreContents) (moments : List (List StoreContents)) (order : List Point) → IsFitting script.catalog fit → HaveStories script.catalog fit labelled order
     → Follows script (events_of labelled) → IsTrace script.places (events_of labelled) opening moments end → StartsEmpty script.places opening → IsOrder script.places (events_of labelled) end order → All (λ (p : Point). p.id.0 < 2 ^ 128) order
     → (tables : List TableDump) × IsRun script opening end (record { events = events_of labelled; order = order; tables = tables })
 linked_run script fit labelled opening end moments order fitting linked follows trace empty ordered small = (

@@ -31,6 +31,7 @@ made_at c n (event.Take d text a) bound l = tt
 made_at c n (event.Stop d) bound l = tt
 made_at c n (event.Clock m) bound l = tt
 made_at c n (event.Idle d) bound l = tt
+made_at c n (event.Alter table column kind altered) bound l = tt
 made_at c n (event.Land number store q how r) bound l = tt
 
 from_within : (c n bound : ℕ) (es : List Event) → n + length es ≤ bound + 1 → AllByRecursion (IsWithin bound) (filter_map (made_by c) (enumerate_from n es))
@@ -75,7 +76,7 @@ filter_none : (t : StoreCall → Bool) (xs : List StoreCall) → AllByRecursion 
 filter_none t [] h = refl
 filter_none t (x ∷ xs) h = ap (λ b. if b then x ∷ filter t xs else filter t xs) h.0 ∙ filter_none t xs h.1
 
-not_after : (n at : ℕ) → at ≤ n → nat_lt n at ≡ false
+pub not_after : (n at : ℕ) → at ≤ n → nat_lt n at ≡ false
 not_after n at l = grind (arith, nat_tests)
 
 ---- since
@@ -107,6 +108,7 @@ since_more events c n e l = ap (filter (λ m. nat_lt n m.at)) (calls_more events
     kept (event.Stop d) = refl
     kept (event.Clock x) = refl
     kept (event.Idle d) = refl
+    kept (event.Alter table column kind altered) = refl
     kept (event.Land number store q how r) = refl
 
 ---- the calls of a statement
@@ -144,4 +146,5 @@ calls_stay events c s e was = ap (λ n. filter (λ m. nat_lt s.accepted m.at && 
     beyond (event.Stop d) = tt
     beyond (event.Clock x) = tt
     beyond (event.Idle d) = tt
+    beyond (event.Alter table column kind altered) = tt
     beyond (event.Land number store q how r) = tt

@@ -12,7 +12,7 @@ use Rattle.sdb_record.specs.Coordinator.{coordinator_key_of, decision_in, same_d
 use Rattle.sdb_record.specs.Meta.{id_in, is_in}
 use Rattle.sdb_model.specs.declared.answer.Answer.TheVariants as answer
 use Rattle.sdb_model.specs.Exec.{Tables}
-use Rattle.sdb_model.specs.Serial.{run_body, serial}
+use Rattle.sdb_model.specs.Serial.{Body, run_body, serial}
 use Rattle.law_clients.specs.Database.{Database, is_listed}
 use Rattle.law_clients.specs.OnlyResolves.{IsPreparedFor, IsAbortedRow}
 use Rattle.law_clients.specs.Clients.{IsUnused}
@@ -131,15 +131,15 @@ parts_append catalog start last earlier d [] t a p = (subst (λ es. IsSerialPart
 parts_append catalog start last earlier d (x ∷ ts) t a p = (a.0, parts_append catalog start last (earlier ++ x ∷ []) (tables_after catalog last d (x ∷ [])) ts t a.1 (subst (λ es. IsSerialPart catalog start es (tables_after catalog last (tables_after catalog last d (x ∷ [])) ts) t) (sym (append_assoc earlier (x ∷ []) ts)) p))
 
 -- Where each was answered so, the recorded ones run whole give the same answers, and leave the tables.
-pub serial_answered : (catalog : List Table) (start last : Database) (earlier : List Part) (d : Tables) (ts : List Part) → AreSerialParts catalog start last earlier d ts → serial catalog (map (λ t. statements_in t.inside) (recorded_of last ts)) d ≡ (map (λ t. answers_in t.inside) (recorded_of last ts), tables_after catalog last d ts)
+pub serial_answered : (catalog : List Table) (start last : Database) (earlier : List Part) (d : Tables) (ts : List Part) → AreSerialParts catalog start last earlier d ts → serial catalog (map (λ t. Body (statements_in t.inside)) (recorded_of last ts)) d ≡ (map (λ t. answers_in t.inside) (recorded_of last ts), tables_after catalog last d ts)
 serial_answered catalog start last earlier d [] a = refl
 serial_answered catalog start last earlier d (t ∷ ts) a = by (is_recorded last t) refl (serial_answered catalog start last (earlier ++ t ∷ []) (tables_after catalog last d (t ∷ [])) ts a.1)
   where
     G : Bool → Type 0
-    G b = serial catalog (map (λ x. statements_in x.inside) (if b then t ∷ recorded_of last ts else recorded_of last ts)) d ≡ (map (λ x. answers_in x.inside) (if b then t ∷ recorded_of last ts else recorded_of last ts), tables_after catalog last (if b then (run_body catalog (statements_in t.inside) d).1 else d) ts)
+    G b = serial catalog (map (λ x. Body (statements_in x.inside)) (if b then t ∷ recorded_of last ts else recorded_of last ts)) d ≡ (map (λ x. answers_in x.inside) (if b then t ∷ recorded_of last ts else recorded_of last ts), tables_after catalog last (if b then (run_body catalog (statements_in t.inside) d).1 else d) ts)
 
     H : Bool → Type 0
-    H b = serial catalog (map (λ x. statements_in x.inside) (recorded_of last ts)) (if b then (run_body catalog (statements_in t.inside) d).1 else d) ≡ (map (λ x. answers_in x.inside) (recorded_of last ts), tables_after catalog last (if b then (run_body catalog (statements_in t.inside) d).1 else d) ts)
+    H b = serial catalog (map (λ x. Body (statements_in x.inside)) (recorded_of last ts)) (if b then (run_body catalog (statements_in t.inside) d).1 else d) ≡ (map (λ x. answers_in x.inside) (recorded_of last ts), tables_after catalog last (if b then (run_body catalog (statements_in t.inside) d).1 else d) ts)
 
     on : (b : Bool) → H b → G b
     on true h = ap (λ q. ((run_body catalog (statements_in t.inside) d).0 ∷ q.0, q.1)) h ∙ ap (λ x. (x ∷ map (λ y. answers_in y.inside) (recorded_of last ts), tables_after catalog last (run_body catalog (statements_in t.inside) d).1 ts)) a.0.answers

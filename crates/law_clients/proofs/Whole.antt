@@ -9,6 +9,7 @@ use Rattle.sdb_schema.specs.Catalog.{is_catalog}
 use Rattle.sdb_model.specs.declared.answer.Answer.TheVariants as answer
 use Rattle.sdb_model.specs.declared.event.Event.TheVariants as event
 use Rattle.sdb_model.specs.declared.statement.Statement.TheVariants as statement
+use Rattle.sdb_model.specs.Catalogs.{catalog_after}
 use Rattle.sdb_model.specs.Causes.{refused}
 use Rattle.sdb_model.specs.Exec.{find_table, named_table, table_of}
 use Rattle.sdb_model.specs.Sql.{Reads, reads_commit, reads_rollback}
@@ -28,6 +29,7 @@ use Rattle.sdb_vacuum.specs.Vacuum.{whole}
 use Rattle.law_clients.specs.About.{IsListed}
 use Rattle.law_clients.specs.Fitting.{tables_are_well_typed}
 use Rattle.law_clients.specs.States.{ClientState, IsGated, IsPlainAnswer, IsReady, doing_of, system_of}
+use Rattle.law_clients.specs.Turns.{IsDataCatalog}
 use Rattle.law_clients.proofs.RowsFit.{found_itself}
 use Rattle.law_clients.proofs.Asked.{IsAsked, told_known, told_unknown}
 use Rattle.law_clients.proofs.Accepted.{IsSo, at_open, other_no_begin, other_no_commit, refused_no_commit, refused_plain, told_begun, told_commit, told_outside, commit_lost, told_rollback, told_same, told_vacuum}
@@ -103,22 +105,22 @@ none_open (Some t) elsewhere k = absurd (cc)
 
 ---- the whole
 
-module _ (q : Taking) (events : List Event) (states : ℕ → ClientState) (g : RunInvariant q.catalog (tables_are_well_typed q.catalog) events (system_of states) (doing_of states)) (c : ℕ) (ready : IsReady states c) (text : List ℕ) (is : is_catalog q.catalog ≡ true)
+module _ (catalog : List Table) (q : Taking) (events : List Event) (current : q.catalog ≡ catalog_after catalog events) (states : ℕ → ClientState) (g : RunInvariant catalog tables_are_well_typed events (system_of states) (doing_of states)) (c : ℕ) (ready : IsReady states c) (text : List ℕ) (is : is_catalog q.catalog ≡ true)
     (apart : (k : Key) → is_some (find_table q.catalog k.table) ≡ true → is_data k ≡ true) (moment : is_moment q.now ≡ true) (gated : IsGated q.gate states c) (numbered : q.fresh ≡ next_id (states c).client) where
   abbrev now : Client
   now = (states c).client
 
   abbrev So : Option Answer → Client → Type 0
-  So result d = IsSo q.catalog (tables_are_well_typed q.catalog) states c d (events ++ event.Take c text result ∷ [])
+  So result d = IsSo catalog tables_are_well_typed states c d (events ++ event.Take c text result ∷ [])
 
   kept : (t : TxnAt) → now.txn ≡ Some t → IsSetInvariant t.seen.read_set t.seen.writes
-  kept t some = (subst (ClientOk g.plan g.past c) (at_open q.catalog (tables_are_well_typed q.catalog) events states g c ready t some) (g.system.each c)).1.kept
+  kept t some = (subst (ClientOk g.plan g.past c) (at_open catalog tables_are_well_typed events states g c ready t some) (g.system.each c)).1.kept
 
   outside : (b : Answer) → now.txn ≡ None → IsMild b → So (Some b) now
-  outside b none mild = told_outside q.catalog (tables_are_well_typed q.catalog) events states g c ready text b none mild
+  outside b none mild = told_outside catalog tables_are_well_typed events states g c ready text b none mild
 
   same : (b : Answer) → IsPlainAnswer b → reads_commit text ≡ false → So (Some b) now
-  same b plain no_commit = told_same q.catalog (tables_are_well_typed q.catalog) events states g c ready text b plain no_commit
+  same b plain no_commit = told_same catalog tables_are_well_typed events states g c ready text b plain no_commit
 
   at_once : (b : Answer) → AtOnce now q text b → So (Some b) now
   at_once b (NoStatement r refuses) = same (answer.Refused r) (refused_plain r) (refused_no_commit text r refuses)
@@ -130,23 +132,36 @@ module _ (q : Taking) (events : List Event) (states : ℕ → ClientState) (g : 
   at_once b (ByCatalog st t r reads names e k) = same (answer.Refused r) (refused_plain r) (other_no_commit text st reads (on_table st names).commit)
   at_once b (NoMemory no_commit) = same answer.NoMemory (record { idle = refl; mild = record { undone = refl; agrees = refl; other = λ k. cc } }) no_commit
 
-  asked : (t : TxnAt) (table : Table) (st : Statement) → IsOnRows now q text t table st → IsAsked q.catalog text st table
-  asked t table st on = record { is = is; named = on.named; accepted = on.accepted; literals = literals_read text st on.reads; reads = on.reads; no_commit = other_no_commit text st on.reads (on_table st (names_table q.catalog st table on.named)).commit }
+  asked : (t : TxnAt) (table : Table) (st : Statement) → IsOnRows now q text t table st → IsAsked (catalog_after catalog events) text st table
+  asked t table st on = subst (λ (ts : List Table). IsAsked ts text st table) current (record { is = is; named = on.named; accepted = on.accepted; literals = literals_read text st on.reads; reads = on.reads; no_commit = other_no_commit text st on.reads (on_table st (names_table q.catalog st table on.named)).commit })
 
   idle_txn : (t : TxnAt) → now.txn ≡ Some t → t.doing ≡ doing.Idle
   idle_txn t e = subst (λ (o : Option TxnAt). IfSome o (λ u. u.doing ≡ doing.Idle)) e ready.idle.still
 
-  pub takes_so : (result : Option Answer) (d : Client) → d.begun < 2 ^ 64 → Step now (Takes q text) result d → So result d
-  takes_so result d few (AnsweredAtOnce {a = b} at) = at_once b at
-  takes_so result d few (Begins reads e shut) =
-      subst (λ (i : TxId). So (Some answer.Done) (client_begun now i)) (sym numbered) (told_begun q.catalog (tables_are_well_typed q.catalog) events states g c ready q.gate text gated shut e reads few)
-  takes_so result d few (RollsBack t reads e) = told_rollback q.catalog (tables_are_well_typed q.catalog) events states g c ready text t e reads
-  takes_so result d few (LosesCommit reads) = commit_lost q.catalog (tables_are_well_typed q.catalog) events states g c ready text reads
-  takes_so result d few (CommitStarts t reads e) = told_commit q.catalog (tables_are_well_typed q.catalog) events states g c ready text t q.now e ((commit_read text).1 reads) moment
-  takes_so result d few (VacuumStarts t ts reads e k) =
+  takes : (result : Option Answer) (d : Client) → d.begun < 2 ^ 64 → Step now (Takes q text) result d → So result d
+  takes result d few (AnsweredAtOnce {a = b} at) = at_once b at
+  takes result d few (Begins reads e shut) =
+      subst (λ (i : TxId). So (Some answer.Done) (client_begun now i)) (sym numbered) (told_begun catalog tables_are_well_typed events states g c ready q.gate text gated shut e reads few)
+  takes result d few (RollsBack t reads e) = told_rollback catalog tables_are_well_typed events states g c ready text t e reads
+  takes result d few (LosesCommit reads) = commit_lost catalog tables_are_well_typed events states g c ready text reads
+  takes result d few (CommitStarts t reads e) = told_commit catalog tables_are_well_typed events states g c ready text t q.now e ((commit_read text).1 reads) moment
+  takes result d few (VacuumStarts t ts reads e k) =
       let none = none_open now.txn q.gate.open_elsewhere e in
       let listed : IsListed q.catalog t.name = subst (λ (xs : List Table). IsListed xs t.name) (sym k) (begun_in t ts).0 in
-      told_vacuum q.catalog (tables_are_well_typed q.catalog) events states g c ready q.gate text t ts gated none.1 none.0 (scan_data q.catalog (whole t) listed apart)
-  takes_so result d few (ReadKnown t table st on known) = told_known q.catalog events states g c ready text st table (asked t table st on) t on.opened (idle_txn t on.opened) (kept t on.opened) known
-  takes_so result d few (ReadStarts t table st on unknown) =
-      told_unknown q.catalog events states g c ready text st table (asked t table st on) t on.opened (idle_txn t on.opened) (kept t on.opened) (reads_data q.catalog st table on.named apart) (inner_read text st on.reads (on_table st (names_table q.catalog st table on.named)))
+      told_vacuum catalog tables_are_well_typed events states g c ready q.gate text t ts gated none.1 none.0 (scan_data q.catalog (whole t) listed apart)
+  takes result d few (ReadKnown t table st on known) = told_known catalog events states g c ready text st table (asked t table st on) t on.opened (idle_txn t on.opened) (kept t on.opened) known
+  takes result d few (ReadStarts t table st on unknown) =
+      told_unknown catalog events states g c ready text st table (asked t table st on) t on.opened (idle_txn t on.opened) (kept t on.opened) (reads_data q.catalog st table on.named apart) (inner_read text st on.reads (on_table st (names_table q.catalog st table on.named)))
+
+-- A client takes a text under the catalog of the moment, where the gate says so of the other clients.
+pub record TakesNow (catalog : List Table) (events : List Event) (states : ℕ → ClientState) (c : ℕ) (q : Taking) : Type 0 where
+  pub current : q.catalog ≡ catalog_after catalog events
+  pub of_data : IsDataCatalog q.catalog
+  pub moment : is_moment q.now ≡ true
+  pub ready : IsReady states c
+  pub gated : IsGated q.gate states c
+  pub numbered : q.fresh ≡ next_id (states c).client
+
+module _ {catalog : List Table} {events : List Event} {states : ℕ → ClientState} {c : ℕ} {q : Taking} (g : RunInvariant catalog tables_are_well_typed events (system_of states) (doing_of states)) (t : TakesNow catalog events states c q) where
+  pub takes_so : (text : List ℕ) {result : Option Answer} {d : Client} → d.begun < 2 ^ 64 → Step (states c).client (Takes q text) result d → IsSo catalog tables_are_well_typed states c d (events ++ event.Take c text result ∷ [])
+  takes_so text {result} {d} few step = takes catalog q events t.current states g c t.ready text t.of_data.is t.of_data.apart t.moment t.gated t.numbered result d few step

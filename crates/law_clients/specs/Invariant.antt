@@ -4,6 +4,7 @@ use Rattle.std.specs.Prelude.{◌≡◌, ◌≢◌, ◌⊎◌, ℕ, Bool, true, 
 use Rattle.law_clients.specs.Types.{Answer, Event, Request, Statement, Table}
 use Rattle.sdb_types.specs.declared.record.Reply.TheVariants as reply
 use Rattle.sdb_model.specs.declared.answer.Answer.TheVariants as answer
+use Rattle.sdb_model.specs.declared.event.Altered.TheVariants as altered
 use Rattle.sdb_model.specs.declared.event.Event.TheVariants as event
 use Rattle.sdb_model.specs.declared.event.How.TheVariants.{Delayed}
 use Rattle.sdb_model.specs.Exec.{Tables}
@@ -15,8 +16,9 @@ use Rattle.law_protocol.specs.Faithful.{AgreesOnOpen}
 use Rattle.law_protocol.specs.Lawful.{Labelled, id, protocol_state}
 use Rattle.law_protocol.specs.Plan.{Plan}
 use Rattle.law_clients.specs.Reads.{SeenOk, work_of}
+use Rattle.law_clients.specs.Catalogs.{AreAtRest, catalog_at_begin}
 use Rattle.law_clients.specs.Owner.{plan_of}
-use Rattle.law_clients.specs.System.{ClientAt, Resting, Open, Reading, Committing, RunsVacuum, Stopped, SystemAt, SystemOk}
+use Rattle.law_clients.specs.System.{ClientAt, Resting, Open, Reading, Committing, RunsVacuum, Stopped, SystemAt, SystemOk, has_open}
 use Rattle.law_clients.specs.Body.{BodyOk}
 use Rattle.law_clients.specs.BodyTexts.{BodyExecuted}
 use Rattle.law_clients.specs.Filed.{number}
@@ -37,19 +39,19 @@ pub record InsideOk (catalog : List Table) (fit : Tables → Bool) (past : List 
 abbrev pub IsPlanned : (ℕ → Plan) → ℕ → Execution → Type 0
 IsPlanned plan t r = plan t ≡ plan_of (work_of (id t) r.now r.seen)
 
--- what holds of a transaction whose statements are these
-pub record RanOk (catalog : List Table) (fit : Tables → Bool) (plan : ℕ → Plan) (past : List Labelled) (t : ℕ) (body : List Executed) (r : Execution) : Type 0 where
-  pub inside : InsideOk catalog fit past body r
+-- what holds of a transaction whose statements are these: it ran under the tables with which it began
+pub record RanOk (catalog : List Table) (fit : List Table → Tables → Bool) (plan : ℕ → Plan) (past : List Labelled) (t : ℕ) (body : List Executed) (r : Execution) : Type 0 where
+  pub inside : InsideOk (catalog_at_begin catalog past t) (fit (catalog_at_begin catalog past t)) past body r
   pub planned : (protocol_state past).accepted t ≡ true → IsPlanned plan t r
 
 ---- one client
 
 -- each transaction of a client that ended
-abbrev pub EndedOk : List Table → (Tables → Bool) → (ℕ → Plan) → List Labelled → ℕ → List Finished → (ℕ → Execution) → Type 0
+abbrev pub EndedOk : List Table → (List Table → Tables → Bool) → (ℕ → Plan) → List Labelled → ℕ → List Finished → (ℕ → Execution) → Type 0
 EndedOk catalog fit plan past c whole ran = (k : ℕ) (f : Finished) → txn_ended_at whole k ≡ Some f → RanOk catalog fit plan past (number c k) f.body (ran k)
 
 -- the one that is open
-abbrev pub OpenedOk : List Table → (Tables → Bool) → (ℕ → Plan) → List Labelled → ℕ → Rest → Execution → Type 0
+abbrev pub OpenedOk : List Table → (List Table → Tables → Bool) → (ℕ → Plan) → List Labelled → ℕ → Rest → Execution → Type 0
 OpenedOk catalog fit plan past t (Closed gap) r = Unit {0}
 OpenedOk catalog fit plan past t (Opened gap b body) r = RanOk catalog fit plan past t body r
 
@@ -89,7 +91,7 @@ IsOpenOf doing x r (RunsVacuum v) = IsClosed x.rest × IsWaiting x.waiting
 IsOpenOf doing x r Stopped = Unit {0}
 
 -- What holds of a client: of each of its transactions, with what each ran, the first at 0, and where it is.
-pub record ClientInvariant (catalog : List Table) (fit : Tables → Bool) (plan : ℕ → Plan) (past : List Labelled) (c : ℕ) (doing : Option Statement) (agrees : ClientAt) (x : ClientHistory) (ran : ℕ → Execution) : Type 0 where
+pub record ClientInvariant (catalog : List Table) (fit : List Table → Tables → Bool) (plan : ℕ → Plan) (past : List Labelled) (c : ℕ) (doing : Option Statement) (agrees : ClientAt) (x : ClientHistory) (ran : ℕ → Execution) : Type 0 where
   pub ended : EndedOk catalog fit plan past c x.whole ran
   pub opened : OpenedOk catalog fit plan past (number c (length x.whole)) x.rest (ran (length x.whole))
   pub next_state : IsOpenOf doing x (ran (length x.whole)) agrees
@@ -97,8 +99,8 @@ pub record ClientInvariant (catalog : List Table) (fit : Tables → Bool) (plan 
 ---- all clients
 
 -- The invariant between the events so far, with actions that obey the rules and agree with the texts, the states of the clients, the
--- statements that they run, and what these read.
-pub record RunInvariant (catalog : List Table) (fit : Tables → Bool) (events : List Event) (sys : SystemAt) (doing : ℕ → Option Statement) : Type 0 where
+-- statements that they run, and what these read; of the columns that were added, each while no transaction was open.
+pub record RunInvariant (catalog : List Table) (fit : List Table → Tables → Bool) (events : List Event) (sys : SystemAt) (doing : ℕ → Option Statement) : Type 0 where
   pub plan : ℕ → Plan
   pub labelled : List Labelled
   pub past : List Labelled
@@ -111,6 +113,7 @@ pub record RunInvariant (catalog : List Table) (fit : Tables → Bool) (events :
   pub clients : (c : ℕ) → ClientInvariant catalog fit plan past c (doing c) (sys.clients c) (answered c) (ran c)
   pub as_read : (c : ℕ) → ReadSetsOfClient events c (sys.clients c) (answered c) (ran c)
   pub agrees : AgreesOnOpen labelled
+  pub at_rest : AreAtRest past
 
 ---- events
 
@@ -131,6 +134,13 @@ pub record HasDelayed (events : List Event) (q : Request) : Type 0 where
 abbrev pub LandsDelayed : List Event → Event → Type 0
 LandsDelayed events (event.Land number store q how r) = HasDelayed events q
 LandsDelayed events e = ⊥
+
+-- A column is to be added to a table: it is added while no client that hasn't stopped has a transaction open, or it isn't.
+abbrev pub AddsAtRest : SystemAt → Event → Type 0
+AddsAtRest sys (event.Alter table column kind altered.Done) = (c : ℕ) → has_open (sys.clients c) ≡ false
+AddsAtRest sys (event.Alter table column kind altered.Open) = Unit {0}
+AddsAtRest sys (event.Alter table column kind (altered.Refused k)) = Unit {0}
+AddsAtRest sys e = ⊥
 
 -- an answer that is neither Done, nor Conflict, nor Committed
 pub record IsMild (a : Answer) : Type 0 where

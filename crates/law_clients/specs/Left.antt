@@ -1,5 +1,5 @@
 -- What a transaction recorded is what its writers left, and tables that transactions left one after the other.
-use Rattle.std.specs.Prelude.{◌≡◌, ℕ, ℤ, true, map, List, Some, Bool, false, None, is_some, Contains, ◌↔◌, ◌++◌}
+use Rattle.std.specs.Prelude.{◌≡◌, ℕ, ℤ, true, map, List, [], ◌∷◌, Some, Bool, false, None, is_some, Contains, ◌↔◌, ◌++◌}
 use Rattle.std.specs.FinMap.{get, empty}
 use Rattle.law_clients.specs.Types.{Answer, Event, Key, Place, Point, Record, Statement, Table}
 use Rattle.sdb_record.specs.Moved.{version_of}
@@ -14,13 +14,15 @@ use Rattle.law_protocol.specs.Serial.{last_writer, row_left}
 use Rattle.std.specs.List.{AllByRecursion}
 use Rattle.sdb_model.specs.Events.{StoreContents}
 use Rattle.sdb_model.specs.Images.{row_at}
-use Rattle.sdb_model.specs.Serial.{AreRead, serial}
+use Rattle.sdb_model.specs.Catalogs.{added, catalog_after}
+use Rattle.sdb_model.specs.Serial.{AreRead, run_body}
 use Rattle.law_protocol.specs.Lawful.{Labelled, protocol_state}
 use Rattle.law_clients.specs.Reads.{SeenOk, work_of}
 use Rattle.sdb_model.specs.ReadSet.{ReadItem, KeyRead, SpanRead, read_set_of}
 use Rattle.sdb_phases.specs.Work.{Work}
 use Rattle.law_clients.specs.Owner.{plan_of}
 use Rattle.law_clients.specs.Body.{BodyOk}
+use Rattle.law_clients.specs.Catalogs.{catalog_at_point, catalog_now}
 use Rattle.sdb_model.specs.Tables.{is_data}
 
 -- Each record that is recorded is that of some transaction, and has the row that this one left there.
@@ -39,21 +41,31 @@ pub record Execution : Type 0 where
   pub body : List Statement
   pub answers : List Answer
 
--- Its plan is what it had read and written, and its statements come to that over any tables that agree with what was read.
-pub record ExecutionOk (catalog : List Table) (fit : Tables → Bool) (plan : ℕ → Plan) (past : List Labelled) (t : ℕ) (r : Execution) : Type 0 where
+-- Its plan is what it had read and written, and its statements come to that over any tables that agree with what was read, under the tables
+-- of its point.
+pub record ExecutionOk (catalog : List Table) (fit : List Table → Tables → Bool) (plan : ℕ → Plan) (past : List Labelled) (t : ℕ) (r : Execution) : Type 0 where
   pub seen : SeenOk past r.seen
   pub planned : plan t ≡ plan_of (work_of (id t) r.now r.seen)
-  pub body : BodyOk catalog fit r.body r.answers r.seen
+  pub body : BodyOk (catalog_at_point catalog past t) (fit (catalog_at_point catalog past t)) r.body r.answers r.seen
 
 -- so did each transaction of a list
-abbrev pub AllExecutions : List Table → (Tables → Bool) → (ℕ → Plan) → List Labelled → (ℕ → Execution) → List ℕ → Type 0
+abbrev pub AllExecutions : List Table → (List Table → Tables → Bool) → (ℕ → Plan) → List Labelled → (ℕ → Execution) → List ℕ → Type 0
 AllExecutions catalog fit plan past ran order = AllByRecursion (λ t. ExecutionOk catalog fit plan past t (ran t)) order
 
--- The transactions of the order run whole, one after the other, from these tables on: each gives its answers; and these are the
--- tables at the end.
-pub record RunsWhole (catalog : List Table) (fit : Tables → Bool) (plan : ℕ → Plan) (ran : ℕ → Execution) (order : List ℕ) (d e : Tables) : Type 0 where
-  pub runs : serial catalog (map (λ t. (ran t).body) order) d ≡ (map (λ t. (ran t).answers) order, e)
-  pub fits : fit e ≡ true
+-- Bodies run whole, one after the other, each under its own tables: the answers of each, and the rows at the end.
+abbrev pub run_bodies : List (List Table × List Statement) → Tables → List (List Answer) × Tables
+run_bodies [] d = ([], d)
+run_bodies (b ∷ bs) d = ((run_body b.0 b.1 d).0 ∷ (run_bodies bs (run_body b.0 b.1 d).1).0, (run_bodies bs (run_body b.0 b.1 d).1).1)
+
+-- a transaction's body, with the tables of its point
+abbrev pub body_at_point : List Table → List Labelled → (ℕ → Execution) → ℕ → List Table × List Statement
+body_at_point catalog past ran t = (catalog_at_point catalog past t, (ran t).body)
+
+-- The transactions of the order run whole, one after the other, from these rows on: each gives its answers; and these are the rows at the
+-- end, which pass the test under the last tables.
+pub record RunsWhole (catalog : List Table) (fit : List Table → Tables → Bool) (past : List Labelled) (ran : ℕ → Execution) (order : List ℕ) (d e : Tables) : Type 0 where
+  pub runs : run_bodies (map (body_at_point catalog past ran) order) d ≡ (map (λ t. (ran t).answers) order, e)
+  pub fits : fit (catalog_now catalog past) e ≡ true
 
 -- at each key of a table the rows that the stores show are those of these tables
 abbrev pub ContainsTables : List Place → List StoreContents → Tables → Type 0
@@ -65,14 +77,15 @@ pub record BodyIsExecuted (events : List Event) (t : ℕ) (r : Execution) : Type
   pub answered : map (λ s. s.answer) (body events (id t)) ≡ map Some r.answers
 
 -- it holds of each transaction of a list
-abbrev pub AllBodiesExecuted : List Table → (Tables → Bool) → (ℕ → Plan) → List Event → List Labelled → (ℕ → Execution) → List ℕ → Type 0
+abbrev pub AllBodiesExecuted : List Table → (List Table → Tables → Bool) → (ℕ → Plan) → List Event → List Labelled → (ℕ → Execution) → List ℕ → Type 0
 AllBodiesExecuted catalog fit plan events past ran order = AllByRecursion (λ t. ExecutionOk catalog fit plan past t (ran t) × BodyIsExecuted events t (ran t)) order
 
--- A test that empty tables pass, and that no tables pass with a row outside the catalog's tables, of which none is the
--- coordinator's.
-pub record IsFitting (catalog : List Table) (fit : Tables → Bool) : Type 0 where
-  pub starts : fit empty ≡ true
-  pub inside : (d : Tables) (k : Key) → fit d ≡ true → is_some (find_table catalog k.table) ≡ false → get d k ≡ None
+-- A test under a catalog, which goes on to be passed when a column is added; empty tables pass it, and no tables pass it with a row outside
+-- the catalog's tables, of which none is the coordinator's.
+pub record IsFitting (catalog : List Table) (fit : List Table → Tables → Bool) : Type 0 where
+  pub starts : fit catalog empty ≡ true
+  pub grows : (ts : List Table) (e : Event) (d : Tables) → fit ts d ≡ true → fit (added ts e) d ≡ true
+  pub inside : (es : List Event) (d : Tables) (k : Key) → fit (catalog_after catalog es) d ≡ true → is_some (find_table catalog k.table) ≡ false → get d k ≡ None
   pub apart : (k : Key) → is_some (find_table catalog k.table) ≡ true → is_data k ≡ true
 
 -- the numbers of the transactions of an order

@@ -5,6 +5,7 @@ pub mod ReadAt
 pub mod Vacuum
 pub mod Reads
 pub mod System
+pub mod Catalogs
 pub mod Worked
 pub mod Machine
 pub mod Knowledge

@@ -11,7 +11,7 @@ use Rattle.law_clients.specs.History.{AllStories, ClientHistory}
 
 -- Plans with which the invariant of all clients holds after the events, and each client has its story; and the execution and the statements
 -- of each transaction of the order.
-pub record HaveStories (catalog : List Table) (fit : Tables → Bool) (labelled : List Labelled) (order : List Point) : Type 0 where
+pub record HaveStories (catalog : List Table) (fit : List Table → Tables → Bool) (labelled : List Labelled) (order : List Point) : Type 0 where
   pub plan : ℕ → Plan
   pub sys : SystemAt
   pub answered : ℕ → ClientHistory

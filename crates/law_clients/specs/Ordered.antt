@@ -1,6 +1,5 @@
 -- Runs with the order of their recorded transactions, and the execution and the statements of each.
-use Rattle.std.specs.Prelude.{◌≡◌, Bool, List, true, ℕ}
-use Rattle.std.specs.FinMap.{empty}
+use Rattle.std.specs.Prelude.{Bool, List, ℕ}
 use Rattle.law_clients.specs.Types.{Point, Script, Table, TableDump}
 use Rattle.sdb_model.specs.declared.event.Outcome.{Outcome}
 use Rattle.sdb_model.specs.Events.{IsTrace, StoreContents}
@@ -16,12 +15,12 @@ use Rattle.law_protocol.specs.Trace.{StartsEmpty}
 use Rattle.law_clients.specs.Left.{AllBodiesExecuted, AllExecutions, Execution, IsFitting, ordinals_of}
 use Rattle.law_clients.specs.Linked.{HaveStories}
 
--- A lawful run, the order of its recorded transactions, and what each of these did, over a test that empty tables pass.
+-- A lawful run, the order of its recorded transactions, and what each of these did, over a test that fits.
 pub record RunWithOrder : Type 0 where
   pub run : LawfulRun
   pub catalog : List Table
-  pub fit : Tables → Bool
-  pub starts : fit empty ≡ true
+  pub fit : List Table → Tables → Bool
+  pub fitting : IsFitting catalog fit
   pub order : List ℕ
   pub ordered : IsOrdered (history_of run) order
   pub ran : ℕ → Execution
@@ -32,7 +31,7 @@ pub record RunWithTexts : Type 0 where
   pub run : RunInOrder
   pub faithful : IsFaithfulRun run
   pub catalog : List Table
-  pub fit : Tables → Bool
+  pub fit : List Table → Tables → Bool
   pub fitting : IsFitting catalog fit
   pub order : List Point
   pub ordered : IsOrderOf run order
@@ -51,7 +50,7 @@ IsInRealTime r = RespectsRealTime r.run.places (events_in r.run) (final_contents
 -- Events of any number of clients with their stories follow a script's moves, and agree with stores whose tables began empty; with the order of
 -- the recorded transactions.
 pub record StoriesEnd (script : Script) : Type 0 where
-  pub fit : Tables → Bool
+  pub fit : List Table → Tables → Bool
   pub labelled : List Labelled
   pub opening : List StoreContents
   pub closing : List StoreContents

@@ -4,6 +4,7 @@ use Rattle.law_clients.specs.Types.{Access, Answer, Event, Keyed, Point, Record,
 use Rattle.sdb_model.specs.declared.event.Event.TheVariants as event
 use Rattle.sdb_model.specs.declared.event.Outcome.{Outcome}
 use Rattle.sdb_model.specs.Calls.{StoreCall}
+use Rattle.sdb_model.specs.Catalogs.{catalog_after}
 use Rattle.sdb_model.specs.Events.{IsTrace, StoreContents}
 use Rattle.sdb_model.specs.Exec.{Tables}
 use Rattle.sdb_model.specs.Follows.{Follows}
@@ -27,11 +28,15 @@ use Rattle.law_clients.specs.Invariant.{RunInvariant, IsInner}
 -- The events so far over a catalog, the clients as they are and the statements that they run, and the invariant of these.
 pub record Progress : Type 0 where
   pub catalog : List Table
-  pub fit : Tables → Bool
+  pub fit : List Table → Tables → Bool
   pub events : List Event
   pub sys : SystemAt
   pub doing : ℕ → Option Statement
   pub running : RunInvariant catalog fit events sys doing
+
+-- the tables of the moment
+abbrev pub tables_in : Progress → List Table
+tables_in p = catalog_after p.catalog p.events
 
 -- The invariant holds of the events so far and these clients too.
 abbrev pub IsPreservedAs : Progress → SystemAt → (ℕ → Option Statement) → Type 0
@@ -90,7 +95,7 @@ pub record FromRows (p : Progress) (seen : Seen) (a : Access) : Type 0 where
   pub changes : List Keyed
   pub from_rows : is_answered_from_rows answer ≡ true
   pub covered : IsCovered seen a
-  pub answers : AnswersOn p.catalog p.fit seen statement a answer changes
+  pub answers : AnswersOn (tables_in p) (p.fit (tables_in p)) seen statement a answer changes
   pub are_changes : AreChanges seen.read_set changes
 
 -- It is answered at once, from what was read before.
@@ -173,7 +178,7 @@ vacuum_next_at r = vacuum_model_step r.stage r.call.now r.call.reply
 -- Events of which the invariant holds follow the moves of a script, and agree with stores whose tables began empty; and the transactions
 -- that are recorded have an order.
 pub record Ending (script : Script) : Type 0 where
-  pub fit : Tables → Bool
+  pub fit : List Table → Tables → Bool
   pub events : List Event
   pub sys : SystemAt
   pub doing : ℕ → Option Statement

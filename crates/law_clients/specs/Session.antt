@@ -15,7 +15,7 @@ use Rattle.sdb_model.specs.declared.statement.Statement.TheVariants as statement
 use Rattle.sdb_model.specs.Causes.{refused}
 use Rattle.sdb_model.specs.Exec.{Tables, table_of}
 use Rattle.sdb_model.specs.Refused.{refusal_of}
-use Rattle.sdb_model.specs.Serial.{run_body, serial}
+use Rattle.sdb_model.specs.Serial.{Body, run_body, serial}
 use Rattle.sdb_model.specs.Transactions.{changes_nothing, is_conflict, is_done}
 use Rattle.law_clients.specs.Database.{Database, decided_in, is_listed}
 use Rattle.law_clients.specs.Clients.{IsUnused}
@@ -277,7 +277,7 @@ recorded_of last ts = filter (is_recorded last) ts
 -- its transactions, recorded or not, was answered as it is after the recorded ones before it; Conflict, Expired and BadRecord never came;
 -- each statement left of the images what it may, a VACUUM has counted the tombstones that it removed, and a last one left none.
 pub record IsSerialSession (catalog : List Table) (opening last : Database) (before : Tables) (es : List Exchange) : Type 0 where
-  pub serial : serial catalog (map (λ t. statements_in t.inside) (recorded_of last (parts_of es).ended)) before ≡ (map (λ t. answers_in t.inside) (recorded_of last (parts_of es).ended), tables_after catalog last before (parts_of es).ended)
+  pub serial : serial catalog (map (λ t. Body (statements_in t.inside)) (recorded_of last (parts_of es).ended)) before ≡ (map (λ t. answers_in t.inside) (recorded_of last (parts_of es).ended), tables_after catalog last before (parts_of es).ended)
   pub images : AreImagesOf catalog last (tables_after catalog last before (parts_of es).ended)
   pub rows : AllByRecursion (λ t. is_recorded_in last t.id ≡ is_recorded last t) (parts_of es).ended
   pub parts : AreSerialParts catalog opening last [] before (all_parts (parts_of es))

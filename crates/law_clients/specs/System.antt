@@ -114,6 +114,7 @@ IsBy d (event.Stop c) = c ≡ d
 IsBy d (event.Clock moment) = ⊥
 IsBy d (event.Idle c) = c ≡ d
 IsBy d (event.Land number store q how r) = ⊥
+IsBy d (event.Alter table column kind altered) = ⊥
 
 -- an event ends no transaction but one of that client
 abbrev pub EndsOwn : List Labelled → ℕ → Labelled → Type 0

@@ -4,6 +4,7 @@ use Rattle.law_clients.specs.Types.{Access, Answer, Event, Key, Keyed, Reply, Re
 use Rattle.sdb_record.specs.Meta.{is_moment}
 use Rattle.sdb_schema.specs.Catalog.{is_catalog}
 use Rattle.sdb_model.specs.declared.event.Event.TheVariants as event
+use Rattle.sdb_model.specs.Catalogs.{catalog_after}
 use Rattle.sdb_model.specs.Exec.{find_table, named_table}
 use Rattle.sdb_model.specs.Refused.{refusal_of}
 use Rattle.sdb_exec.specs.declared.plan.PlanStep.TheVariants.{Finished}
@@ -59,7 +60,7 @@ pub record IsDataCatalog (catalog : List Table) : Type 0 where
 
 -- The run invariant holds of the events so far and the clients as they are, over tables that fit.
 abbrev pub IsInvariantWith : List Table → List Event → (ℕ → ClientState) → Type 0
-IsInvariantWith catalog events states = RunInvariant catalog (tables_are_well_typed catalog) events (system_of states) (doing_of states)
+IsInvariantWith catalog events states = RunInvariant catalog tables_are_well_typed events (system_of states) (doing_of states)
 
 -- A client takes a text, which comes to that answer, or none, and leaves the client so.
 pub record TextExecuted : Type 0 where
@@ -88,6 +89,15 @@ states_after_text t = with_state t.states t.client t.after
 abbrev pub IsGatedText : TextExecuted → Type 0
 IsGatedText t = IsGated t.q.gate t.states t.client
 
+-- A client takes a text in a run: under the tables of the moment, where the gate says so of the other clients and the invariant holds.
+pub record TextInRun : Type 0 where
+  pub catalog : List Table
+  pub events : List Event
+  pub taken : TextExecuted
+  pub current : taken.q.catalog ≡ catalog_after catalog events
+  pub gated : IsGatedText taken
+  pub invariant : IsInvariantWith catalog events taken.states
+
 -- A client's call gets a reply, which comes to that answer, or none, and leaves the client so.
 pub record CallReplied : Type 0 where
   pub catalog : List Table
@@ -106,3 +116,11 @@ reply_event r = call_event r.call r.result
 -- where the clients are with it
 abbrev pub states_after_reply : CallReplied → ℕ → ClientState
 states_after_reply r = with_state r.states r.call.client r.after
+
+-- It gets the reply in a run: under the tables of the moment, where the invariant holds.
+pub record ReplyInRun : Type 0 where
+  pub catalog : List Table
+  pub events : List Event
+  pub replied : CallReplied
+  pub current : replied.catalog ≡ catalog_after catalog events
+  pub invariant : IsInvariantWith catalog events replied.states

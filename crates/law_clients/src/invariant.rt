@@ -15,15 +15,16 @@ ghost use Rattle.law_clients.specs.Knowledge.{CommitReply, MayBegin, MayScanSpan
 ghost use Rattle.law_clients.specs.ReadAt.{Asking, IsOfData};
 ghost use Rattle.law_clients.specs.Vacuum.{Scanning};
 ghost use Rattle.law_clients.specs.System.{Committing, IsCommit, Open, Reading, Resting, Stopped, RunsVacuum, SystemAt, answer_at, commit_left, idle, with_client};
-ghost use Rattle.law_clients.specs.Invariant.{RunInvariant, IsMild, IsSilent, LandsDelayed, LeavesAtOnce};
+ghost use Rattle.law_clients.specs.Invariant.{AddsAtRest, RunInvariant, IsMild, IsSilent, LandsDelayed, LeavesAtOnce};
 ghost use Rattle.law_clients.specs.Progress.{After, AfterAsked, AfterReply, AfterTake, Asked, AskedRows, DoneReply, Ending, IsPreservedAs, IsSame, IsUnfinished, LastReply, MayRead, Progress, ReadReply, Runs, VacuumReplied, committing, outcome_with, read_next, seen_after, seen_asked, seen_done, vacuum_next_at};
 
 /// Before the first event no client has done anything; and the clock moves, or a client without work idles; or a request lands whose call
-/// was delayed, of which no client learns anything; or a client stops.
+/// was delayed, of which no client learns anything; or a column is to be added; or a client stops.
 pub fn rests()
-    ensures starts { (catalog : List Table) (fit : Tables → Bool) → RunInvariant catalog fit [] idle (λ c. None) }
+    ensures starts { (catalog : List Table) (fit : List Table → Tables → Bool) → RunInvariant catalog fit [] idle (λ c. None) }
     ensures silent { (p : Progress) (e : Event) → IsSilent e → RunInvariant p.catalog p.fit (p.events ++ e ∷ []) p.sys p.doing }
     ensures lands { (p : Progress) (e : Event) → LandsDelayed p.events e → RunInvariant p.catalog p.fit (p.events ++ e ∷ []) p.sys p.doing }
+    ensures alters { (p : Progress) (e : Event) → AddsAtRest p.sys e → RunInvariant p.catalog p.fit (p.events ++ e ∷ []) p.sys p.doing }
     ensures stops { (p : Progress) (c : ℕ) → After p c (event.Stop c) (with_client p.sys c Stopped) None }
 {}
 

@@ -23,10 +23,10 @@ pub fn rows_agree()
     ensures put { (r : LawfulRun) (t : ℕ) (d : Decision) (m : ℤ) → t < 2 ^ 128 → (protocol_state r.past).dead t ≡ true → IsRowObserved r.past t d m → d ≡ decision.Aborted }
 {}
 
-/// Over a run, the recorded transactions in the order of their points, run whole one after the other from empty tables, give the
-/// answers that their statements had, and the tables at the end have the rows that the stores show.
+/// Over a run, the recorded transactions in the order of their points, run whole one after the other from empty tables, each under the
+/// catalog of its point, give the answers that their statements had, and the tables at the end have the rows that the stores show.
 pub fn order_runs_whole()
-    ensures { (r : RunWithOrder) → (e : Tables) × RunsWhole r.catalog r.fit r.run.plan r.ran r.order empty e × ContainsTables r.run.places (contents_of_run r.run) e }
+    ensures { (r : RunWithOrder) → (e : Tables) × RunsWhole r.catalog r.fit r.run.past r.ran r.order empty e × ContainsTables r.run.places (contents_of_run r.run) e }
 {}
 
 /// Over a run whose actions are those that the texts give, where each recorded transaction ran as its statements say: there are tables to

@@ -111,6 +111,7 @@ event_changes places (event.Take client text answer) before now effect fresh = u
 event_changes places (event.Stop client) before now effect fresh = unchanged places before now false effect
 event_changes places (event.Clock moment) before now effect fresh = unchanged places before now false effect
 event_changes places (event.Idle client) before now effect fresh = unchanged places before now false effect
+event_changes places (event.Alter table column kind altered) before now effect fresh = unchanged places before now false effect
 event_changes places (event.Land number store q how r) before now effect fresh = (performed places store q how r before now (take_effect places (changes_of q) before now) effect fresh refl).changed
 
 ---- the two writes

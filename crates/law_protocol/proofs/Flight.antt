@@ -7,11 +7,8 @@ use Rattle.law_protocol.specs.History.{Action, Other, Begins, Takes, Prepares, C
 use Rattle.law_protocol.specs.Trace.{after_end}
 use Rattle.law_protocol.specs.Flight.{IsLate, IsReady, StaysAllowed}
 use Rattle.law_protocol.proofs.Allowed.{Allowed, at_one}
-use Rattle.law_protocol.proofs.Small.{HeardOk, decided_answered, checked_stays, row_kept, decided_kept, writer_kept}
+use Rattle.law_protocol.proofs.Small.{HeardOk, accepted_stays, decided_answered, checked_stays, row_kept, decided_kept, writer_kept}
 use Rattle.law_protocol.proofs.Seen.{open_before}
-
-pub accepted_stays : (plan : ℕ → Plan) (w : History) (r : Action) (done : Bool) (t : ℕ) → w.protocol.accepted t ≡ true → (happens plan w r done).protocol.accepted t ≡ true
-accepted_stays plan w r done t h = grind (arith, tests)
 
 still_asked : (plan : ℕ → Plan) (w : History) (r : Action) (done : Bool) (t : ℕ) (k : Key) → w.protocol.asked t k ≡ true → (happens plan w r done).protocol.asked t k ≡ true
 still_asked plan w r done t k h = grind (arith, tests)

@@ -41,7 +41,7 @@ use Rattle.law_protocol.proofs.Asked.{IsAcceptedBy, IsCheckMade, accepted_after,
 use Rattle.law_protocol.proofs.Canon.{held_open}
 use Rattle.law_protocol.proofs.Current.{deleted_in, noted_at, now_is as clock_is, was_decided}
 use Rattle.law_protocol.proofs.Derived.{decision_is, recorded_row, row_recorded}
-use Rattle.law_protocol.proofs.Flight.{accepted_stays}
+use Rattle.law_protocol.proofs.Small.{accepted_stays}
 use Rattle.law_protocol.proofs.InFlight.{delayed_allowed, flying_was_delayed, lasts_from, order_at, recorded_answered, recorded_undelayed, run_at, whole_at}
 use Rattle.law_protocol.proofs.Known.{accepted_fits, firm_key, held_before, held_key, writer_accepted, writes_it}
 use Rattle.law_protocol.proofs.Links.{row_is_no_data}

@@ -69,6 +69,7 @@ delayed_is places p before now q effect h = by p.event refl effect h
     by (event.Stop client) is c h = absurd (none h)
     by (event.Clock moment) is c h = absurd (none h)
     by (event.Idle client) is c h = absurd (none h)
+    by (event.Alter table column kind altered) is c h = absurd (none h)
     by (event.Land number store x how r) is c h = absurd (none h)
 
 was_delayed : (places : List Place) (opening : List StoreContents) (past : List Labelled) (ss : List (List StoreContents)) (k : ℕ) (q : Request) → IsTraced places opening past ss → slice_get (filter_map delayed_by (in_order past)) k ≡ Some q → (action : Action) × WasDelayed past q action

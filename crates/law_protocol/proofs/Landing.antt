@@ -61,6 +61,7 @@ quiet_reads (event.Take client text given) q r a h = absurd (asks_nothing refl a
 quiet_reads (event.Stop client) q r a h = clash (sym h)
 quiet_reads (event.Clock moment) q r a h = absurd (asks_nothing refl a)
 quiet_reads (event.Idle client) q r a h = absurd (asks_nothing refl a)
+quiet_reads (event.Alter table column kind altered) q r a h = absurd (asks_nothing refl a)
 quiet_reads (event.Land number store p how r0) q r a h = clash (sym h)
 
 check_reads : (plan : Plan) (item : ReadItem) (q : Request) (r : Reply) → IsUnchanged plan item q r → is_read q ≡ true

@@ -3,10 +3,12 @@ use Rattle.std.proofs.Common.{◌≡◌, ℕ, zero, suc, ◌+◌, Bool, false, c
 use Rattle.std.specs.Prelude.{map, fold, find, filter, take_while, not, nat_lt, ◌&&◌, ◌||◌, unwrap_or, length}
 use Rattle.std.specs.List.{count_by, list_any, enumerate_from, filter_map, cons_option, slice_get}
 use Rattle.std.specs.Option.{option_map, option_map_or, option_and_then}
-use Rattle.law_protocol.specs.Types.{Event, Request, ScriptClient, TxId}
+use Rattle.law_protocol.specs.Types.{Event, Request, ScriptClient, Table, TxId}
 use Rattle.sdb_types.specs.declared.record.Reply.TheVariants as reply
 use Rattle.sdb_model.specs.declared.event.Event.TheVariants as event
 use Rattle.sdb_model.specs.declared.event.How.TheVariants.{Seen, Lost, Discarded, Delayed, Broken}
+use Rattle.sdb_model.specs.Catalogs.{added, catalog_after}
+use Rattle.sdb_model.specs.Serial.{Step, addition, additions}
 use Rattle.sdb_model.specs.Sql.{reads_commit}
 use Rattle.sdb_model.specs.Rows.{Name}
 use Rattle.sdb_model.specs.Follows.{is_take_of, stops, pends_after, takes_of, has_stopped, is_pending, has_work, texts_of, lands, delayed_by, delayed_at, in_flight}
@@ -42,6 +44,7 @@ takes_moved at c (event.Call i s q h r given) = refl
 takes_moved at c (event.Stop i) = refl
 takes_moved at c (event.Clock m) = refl
 takes_moved at c (event.Idle i) = refl
+takes_moved at c (event.Alter table column kind altered) = refl
 takes_moved at c (event.Land k s q h r) = refl
 
 stops_moved : (at : Name → Name) (c : ℕ) (e : Event) → stops c (relocated_event at e) ≡ stops c e
@@ -50,6 +53,7 @@ stops_moved at c (event.Call i s q h r given) = refl
 stops_moved at c (event.Stop i) = refl
 stops_moved at c (event.Clock m) = refl
 stops_moved at c (event.Idle i) = refl
+stops_moved at c (event.Alter table column kind altered) = refl
 stops_moved at c (event.Land k s q h r) = refl
 
 pends_moved : (at : Name → Name) (c : ℕ) (was : Bool) (e : Event) → pends_after c was (relocated_event at e) ≡ pends_after c was e
@@ -58,6 +62,7 @@ pends_moved at c was (event.Call i s q h r given) = refl
 pends_moved at c was (event.Stop i) = refl
 pends_moved at c was (event.Clock m) = refl
 pends_moved at c was (event.Idle i) = refl
+pends_moved at c was (event.Alter table column kind altered) = refl
 pends_moved at c was (event.Land k s q h r) = refl
 
 pub taken_moved : (at : Name → Name) (c : ℕ) (past : List Event) → takes_of c (relocated_events at past) ≡ takes_of c past
@@ -83,6 +88,7 @@ lands_moved at k (event.Call i s q h r given) = refl
 lands_moved at k (event.Stop i) = refl
 lands_moved at k (event.Clock m) = refl
 lands_moved at k (event.Idle i) = refl
+lands_moved at k (event.Alter table column kind altered) = refl
 lands_moved at k (event.Land n s q h r) = refl
 
 delayed_moved : (at : Name → Name) (e : Event) → delayed_by (relocated_event at e) ≡ delayed_by e
@@ -95,6 +101,7 @@ delayed_moved at (event.Call i s q Broken r given) = refl
 delayed_moved at (event.Stop i) = refl
 delayed_moved at (event.Clock m) = refl
 delayed_moved at (event.Idle i) = refl
+delayed_moved at (event.Alter table column kind altered) = refl
 delayed_moved at (event.Land n s q h r) = refl
 
 requests_moved : (at : Name → Name) (es : List Event) → filter_map delayed_by (relocated_events at es) ≡ filter_map delayed_by es
@@ -113,6 +120,35 @@ flight_moved at k past =
     ap (λ (b : Bool). cond b None (delayed_at k (relocated_events at past))) (any_moved (lands k) (relocated_event at) (lands_moved at k) past)
     ∙ ap (λ (o : Option Request). cond (list_any (lands k) past) None o) (asked_moved at k past)
 
+---- what adds columns
+
+added_moved : (at : Name → Name) (catalog : List Table) (e : Event) → added catalog (relocated_event at e) ≡ added catalog e
+added_moved at catalog (event.Take i text given) = refl
+added_moved at catalog (event.Call i s q h r given) = refl
+added_moved at catalog (event.Stop i) = refl
+added_moved at catalog (event.Clock m) = refl
+added_moved at catalog (event.Idle i) = refl
+added_moved at catalog (event.Land k s q h r) = refl
+added_moved at catalog (event.Alter table column kind altered) = refl
+
+pub catalog_moved : (at : Name → Name) (catalog : List Table) (past : List Event) → catalog_after catalog (relocated_events at past) ≡ catalog_after catalog past
+catalog_moved at catalog past = fold_moved added (relocated_event at) (added_moved at) catalog past
+
+addition_moved : (at : Name → Name) (e : Event) → addition (relocated_event at e) ≡ addition e
+addition_moved at (event.Take i text given) = refl
+addition_moved at (event.Call i s q h r given) = refl
+addition_moved at (event.Stop i) = refl
+addition_moved at (event.Clock m) = refl
+addition_moved at (event.Idle i) = refl
+addition_moved at (event.Land k s q h r) = refl
+addition_moved at (event.Alter table column kind altered) = refl
+
+pub additions_moved : (at : Name → Name) (es : List Event) → additions (relocated_events at es) ≡ additions es
+additions_moved at [] = refl
+additions_moved at (e ∷ es) =
+    ap (λ (o : Option Step). cons_option o (additions (relocated_events at es))) (addition_moved at e)
+    ∙ ap (cons_option (addition e)) (additions_moved at es)
+
 ---- what clients said
 
 says_moved : (at : Name → Name) (c : ℕ) (ss : List Executed) (n : ℕ) (e : Event) → statements_after c ss (n, relocated_event at e) ≡ statements_after c ss (n, e)
@@ -122,6 +158,7 @@ says_moved at c ss n (event.Call i s q h r (Some a)) = refl
 says_moved at c ss n (event.Stop i) = refl
 says_moved at c ss n (event.Clock m) = refl
 says_moved at c ss n (event.Idle i) = refl
+says_moved at c ss n (event.Alter table column kind altered) = refl
 says_moved at c ss n (event.Land k s q h r) = refl
 
 pub executed_moved : (at : Name → Name) (c : ℕ) (events : List Event) → statements_by c (relocated_events at events) ≡ statements_by c events
@@ -158,6 +195,7 @@ prepared_moved at id (event.Call i s q Broken r given) = refl
 prepared_moved at id (event.Stop i) = refl
 prepared_moved at id (event.Clock m) = refl
 prepared_moved at id (event.Idle i) = refl
+prepared_moved at id (event.Alter table column kind altered) = refl
 prepared_moved at id (event.Land k s q h r) = refl
 
 last_moved : (at : Name → Name) (events : List Event) (id : TxId) → last_prepare (relocated_events at events) id ≡ last_prepare events id

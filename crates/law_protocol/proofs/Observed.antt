@@ -115,6 +115,7 @@ stood places (event.Take client text answer) before now x c h = absurd h
 stood places (event.Stop client) before now x c h = absurd h
 stood places (event.Clock moment) before now x c h = absurd h
 stood places (event.Idle client) before now x c h = absurd h
+stood places (event.Alter table column kind altered) before now x c h = absurd h
 stood places (event.Land number store q how r) before now x c h = absurd h
 
 ---- reads

@@ -23,4 +23,5 @@ occurs_by plan past (event.Call client store q how r answer) action p = inl p
 occurs_by plan past (event.Stop client) action p = inl p
 occurs_by plan past (event.Clock moment) action p = inl p
 occurs_by plan past (event.Idle client) action p = inl p
+occurs_by plan past (event.Alter table column kind altered) action p = inl p
 occurs_by plan past (event.Land number store q how r) action p = inr (record { number = number; store = store; request = q; how = how; reply = r; land = refl; was = p })

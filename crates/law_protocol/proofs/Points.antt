@@ -196,6 +196,7 @@ event_no t (event.Take client text given) h = refl
 event_no t (event.Stop client) h = refl
 event_no t (event.Clock moment) h = refl
 event_no t (event.Idle client) h = refl
+event_no t (event.Alter table column kind altered) h = refl
 event_no t (event.Land number store q how r) h = refl
 
 enabled_prepares : (plan : ℕ → Plan) (places : List Place) (w : History) (past : List Labelled) (e : Event) (before now : List StoreContents) (r : Action) (t : ℕ) → Knows plan w past → Effect places e before now → MayOccur plan past e r → IsEnabled plan past e r → t < 2 ^ 128 → is_prepared_by (id t) e ≡ tells_prepare t r

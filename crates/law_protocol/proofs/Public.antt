@@ -9,7 +9,7 @@ pub use Rattle.law_protocol.proofs.InFlight.{delayed_allowed, flying_was_delayed
 pub use Rattle.law_protocol.proofs.Known.{IsPlanned, held_key, row_known, accepted_fits, took_is_accepted, write_key, writer_accepted, writes_it}
 pub use Rattle.law_protocol.proofs.ModelTime.{answers_true, keeps_real_time, ordered_of, point_of, rest_rising}
 pub use Rattle.law_protocol.proofs.Moments.{apart_from, at_cut, committed_at, cut, early_run, gone_at, half, rows_at, lies_at, unresolved_at}
-pub use Rattle.law_protocol.proofs.Moved.{asked_moved, begun_moved, commit_moved, executed_moved, flight_moved, moved_more, point_moved, stopped_moved}
+pub use Rattle.law_protocol.proofs.Moved.{additions_moved, asked_moved, begun_moved, catalog_moved, commit_moved, executed_moved, flight_moved, moved_more, point_moved, stopped_moved}
 pub use Rattle.law_protocol.proofs.Occurring.{IsLanded, occurs_by}
 pub use Rattle.law_protocol.proofs.Order.{reads_serial, rows_serial}
 pub use Rattle.law_protocol.proofs.Points.{firm_no}

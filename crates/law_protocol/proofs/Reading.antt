@@ -109,6 +109,7 @@ quiet_still places (event.Call client store (ask.DeleteIf key c) how r answer) b
 quiet_still places (event.Stop client) before now h f k = clash (sym h)
 quiet_still places (event.Clock moment) before now h f k = ap (λ x. stored_at places x k) f
 quiet_still places (event.Idle client) before now h f k = ap (λ x. stored_at places x k) f
+quiet_still places (event.Alter table column kind altered) before now h f k = ap (λ x. stored_at places x k) f
 quiet_still places (event.Land number store q how r) before now h f k = clash (sym h)
 
 pub other_moves : (plan : ℕ → Plan) (places : List Place) (w : History) (e : Event) (before now : List StoreContents) (done : Bool) → ContainsHistory plan places w before → Effect places e before now → is_quiet e ≡ true → Moves plan places w Other done now

@@ -1,8 +1,10 @@
 -- A run on one store is one on several that hold the same.
-use Rattle.std.proofs.Common.{◌≡◌, Bool, true, false, List, [], ◌∷◌, Option, Some, None, refl, sym, ap, subst, ◌∙◌, ◌⊎◌}
-use Rattle.std.specs.Prelude.{map, IsSome, IsSomeAnd, Contains, ◌↔◌, ◌||◌, is_some, slice_index_or, if◌then◌else◌}
+use Rattle.std.proofs.Common.{◌≡◌, ℕ, Bool, true, false, List, [], ◌∷◌, ◌++◌, Option, Some, None, refl, sym, ap, subst, ◌∙◌, ◌⊎◌}
+use Rattle.std.proofs.lemmas.List.{drop-map, take-map}
+use Rattle.std.specs.FinMap.{empty}
+use Rattle.std.specs.Prelude.{drop, map, take, IsSome, IsSomeAnd, Contains, ◌↔◌, ◌||◌, is_some, slice_index_or, if◌then◌else◌}
 use Rattle.std.specs.Option.{option_and_then}
-use Rattle.law_protocol.specs.Types.{Answer, Decided, Event, Key, Pair, Place, Point, Record, Statement, Table, TableDump, TxId}
+use Rattle.law_protocol.specs.Types.{Answer, Decided, Event, Key, Pair, Place, Point, Record, Table, TableDump, TxId}
 use Rattle.sdb_types.specs.Contents.{Contents, record_at}
 use Rattle.sdb_record.specs.declared.coordinator.Decision.TheVariants as decision
 use Rattle.sdb_record.specs.Coordinator.{coordinator_key_of, decision_in}
@@ -16,10 +18,10 @@ use Rattle.sdb_model.specs.Exec.{find_table}
 use Rattle.sdb_model.specs.Events.{StoreContents, stored_at}
 use Rattle.sdb_model.specs.Images.{decision_at, decision_on, row_at}
 use Rattle.sdb_model.specs.Transactions.{Executed, IsOrder}
-use Rattle.sdb_model.specs.Serial.{AreBodies, AreRead, answers_given, commit_answer, IsSerial, RespectsRealTime, IsRun}
+use Rattle.sdb_model.specs.Serial.{AreSteps, AreRead, Body, Step, additions, answers_given, commit_answer, dumps_of, IsSerial, RespectsRealTime, IsRun, serial}
 use Rattle.sdb_model.specs.Form.{script_with_places}
-use Rattle.law_protocol.specs.Spread.{one_store, relocated_events, relocated_outcome, HoldAs, RelocatedRun}
-use Rattle.law_protocol.proofs.Moved.{begun_moved, body_moved, commit_moved, point_moved, executed_moved}
+use Rattle.law_protocol.specs.Spread.{one_store, relocated_event, relocated_events, relocated_outcome, HoldAs, RelocatedRun}
+use Rattle.law_protocol.proofs.Moved.{additions_moved, begun_moved, body_moved, catalog_moved, commit_moved, point_moved, executed_moved}
 use Rattle.law_protocol.proofs.Followed.{follows_moved}
 use Rattle.sdb_types.proofs.Public.{or_true}
 use Rattle.sdb_model.specs.Tables.{is_table_of_run}
@@ -74,11 +76,22 @@ order_moved at catalog places closing name m events order a o = record {
 
 ---- what was answered
 
-bodies_moved : (at : Name → Name) (events : List Event) (order : List Point) (bodies : List (List Statement)) → AreBodies events order bodies → AreBodies (relocated_events at events) order bodies
-bodies_moved at events [] [] h = h
-bodies_moved at events [] (b ∷ bs) h = h
-bodies_moved at events (p ∷ ps) [] h = h
-bodies_moved at events (p ∷ ps) (b ∷ bs) h = (subst (λ (ss : List Executed). AreRead ss b) (sym (body_moved at events p.id)) h.0, bodies_moved at events ps bs h.1)
+-- the columns that are added after the first n events, and up to event m
+later_moved : (at : Name → Name) (events : List Event) (n : ℕ) → additions (drop n (relocated_events at events)) ≡ additions (drop n events)
+later_moved at events n = ap additions (drop-map (relocated_event at) n events) ∙ additions_moved at (drop n events)
+
+between_moved : (at : Name → Name) (events : List Event) (n m : ℕ) → additions (drop n (take m (relocated_events at events))) ≡ additions (drop n (take m events))
+between_moved at events n m = ap (λ (es : List Event). additions (drop n es)) (take-map (relocated_event at) m events) ∙ later_moved at (take m events) n
+
+steps_moved : (at : Name → Name) (events : List Event) (n : ℕ) (order : List Point) (steps : List Step) → AreSteps events n order steps → AreSteps (relocated_events at events) n order steps
+steps_moved at events n [] steps h = h ∙ sym (later_moved at events n)
+steps_moved at events n (p ∷ ps) steps h = (
+  h.0,
+  h.1,
+  h.2 ∙ ap (λ (ss : List Step). ss ++ Body h.0 ∷ h.1) (sym (between_moved at events n p.event)),
+  subst (λ (ss : List Executed). AreRead ss h.0) (sym (body_moved at events p.id)) h.3,
+  steps_moved at events p.event ps h.1 h.4,
+)
 
 answers_moved : (at : Name → Name) (events : List Event) (order : List Point) → map (answers_given (relocated_events at events)) order ≡ map (answers_given events) order
 answers_moved at events [] = refl
@@ -98,10 +111,10 @@ Fates id given = (given ≡ Some answer.Committed) ⊎ (given ≡ Some (answer.U
 told_moved : (at : Name → Name) (catalog : List Table) (places : List Place) (closing : List StoreContents) (name : Name) (m : Contents) (events : List Event) (order : List Point) (tables : List TableDump) → Alike catalog places closing name m
     → IsSerial catalog [] events (one_store name m) order tables → IsSerial catalog places (relocated_events at events) closing order tables
 told_moved at catalog places closing name m events order tables a t = record {
-  bodies = t.bodies;
-  read = bodies_moved at events order t.bodies t.read;
+  steps = t.steps;
+  read = steps_moved at events 0 order t.steps t.read;
   answers = answers_moved at events order ∙ t.answers;
-  printed = t.printed;
+  printed = t.printed ∙ ap (λ (ts : List Table). dumps_of ts (serial catalog t.steps empty).1) (sym (catalog_moved at catalog events));
   images = λ key. t.images key ∙ sym (if_same (is_some (find_table catalog key.table)) (row_at places closing key) (row_at [] (one_store name m) key) (λ e. row_same catalog places closing name m a key (or_first _ _ e)));
   committed = λ id small e. subst Says (sym (a.decides id)) (t.committed id small (sym (answer_moved at events id) ∙ e));
   owned = λ client s among answered.

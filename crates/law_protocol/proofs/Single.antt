@@ -68,6 +68,7 @@ single {catalog} name {places} (event.Take client text answer ∷ es) before (s 
 single {catalog} name {places} (event.Stop client ∷ es) before (s ∷ ss) closing {m} t about h = one_more catalog name places (event.Stop client) es m m closing refl (single name es s ss closing t.1 about.1 (subst (λ x. HoldAs catalog places x m) (sym t.0) h))
 single {catalog} name {places} (event.Clock moment ∷ es) before (s ∷ ss) closing {m} t about h = one_more catalog name places (event.Clock moment) es m m closing refl (single name es s ss closing t.1 about.1 (subst (λ x. HoldAs catalog places x m) (sym t.0) h))
 single {catalog} name {places} (event.Idle client ∷ es) before (s ∷ ss) closing {m} t about h = one_more catalog name places (event.Idle client) es m m closing refl (single name es s ss closing t.1 about.1 (subst (λ x. HoldAs catalog places x m) (sym t.0) h))
+single {catalog} name {places} (event.Alter table column kind altered ∷ es) before (s ∷ ss) closing {m} t about h = one_more catalog name places (event.Alter table column kind altered) es m m closing refl (single name es s ss closing t.1 about.1 (subst (λ x. HoldAs catalog places x m) (sym t.0) h))
 single {catalog} name {places} (event.Call client store q how r answer ∷ es) before (s ∷ ss) closing {m} t about h =
     let o = one catalog places store q how r before s m t.0 about.0 h in
     one_more catalog name places (event.Call client store q how r answer) es m o.left closing

@@ -84,6 +84,9 @@ decided_same plan w r done t h accepted stage risked a = grind (arith, tests)
 pub decided_answered : (plan : ℕ → Plan) (w : History) (r : Action) (done : Bool) (t : ℕ) (k : Key) → w.protocol.stage t ≡ Deciding → Allowed plan w r done → w.protocol.answered t k ≡ true → (happens plan w r done).protocol.answered t k ≡ true
 decided_answered plan w r done t k stage a h = grind (arith, tests, at_one plan w r done k a)
 
+pub accepted_stays : (plan : ℕ → Plan) (w : History) (r : Action) (done : Bool) (t : ℕ) → w.protocol.accepted t ≡ true → (happens plan w r done).protocol.accepted t ≡ true
+accepted_stays plan w r done t h = grind (arith, tests)
+
 pub checked_stays : (plan : ℕ → Plan) (w : History) (r : Action) (done : Bool) (t i : ℕ) → w.protocol.checked t i ≡ true → (happens plan w r done).protocol.checked t i ≡ true
 checked_stays plan w r done t i h = grind (arith, tests)
 

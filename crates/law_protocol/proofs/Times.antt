@@ -17,7 +17,7 @@ use Rattle.law_protocol.specs.Trace.{closing, IsTraced, has_effect, after_end, h
 use Rattle.law_protocol.specs.Records.{record_left_by, record_for, row_for}
 use Rattle.law_protocol.specs.Explained.{IsRunOf, RowsFinal, IsAnsweredCommitted, IsDenied, StoodBefore, newest_first, events_of}
 use Rattle.law_protocol.proofs.Allowed.{Allowed}
-use Rattle.law_protocol.proofs.Small.{row_kept, point_fixed}
+use Rattle.law_protocol.proofs.Small.{accepted_stays, row_kept, point_fixed}
 use Rattle.law_protocol.proofs.Seen.{All, closed_still}
 use Rattle.law_protocol.proofs.Known.{held_before, moment_stays, row_stays, accepted_fits}
 use Rattle.law_protocol.proofs.Settled.{Knows, committed_of, aborted_of}
@@ -192,9 +192,6 @@ lost_row : (w : History) (t : ℕ) → Lost w t → w.row t ≢ Some Committed
 lost_row w t (inl h) e = absurd (grind arith)
 lost_row w t (inr h) e = h.3 e
 
-taken_stays : (plan : ℕ → Plan) (w : History) (r : Action) (done : Bool) (t : ℕ) → w.protocol.accepted t ≡ true → (happens plan w r done).protocol.accepted t ≡ true
-taken_stays plan w r done t h = grind (arith, tests)
-
 ended_is_closed : (plan : ℕ → Plan) (w : History) (t : ℕ) (ends : Option ℕ) → ends ≡ Some t → w.protocol.accepted t ≡ true → ((after_end plan w ends).protocol.accepted t ≡ true) × ((after_end plan w ends).protocol.is_open t ≡ false)
 ended_is_closed plan w t None e h = absurd (cc)
 ended_is_closed plan w t (Some u) e h = grind (arith, tests)
@@ -232,7 +229,7 @@ denied_lost plan places opening past p s ss t r ends accepted why = by why
     fits = accepted_fits (history plan places opening past ss) t before.all.one.begun before.knows.fits was_taken
 
     closed : ((history plan places opening (p ∷ past) (s ∷ ss)).protocol.accepted t ≡ true) × ((history plan places opening (p ∷ past) (s ∷ ss)).protocol.is_open t ≡ false)
-    closed = ended_is_closed plan (happens plan (history plan places opening past ss) p.action (has_effect places p.event (closing opening ss) s)) t p.ends ends (taken_stays plan (history plan places opening past ss) p.action (has_effect places p.event (closing opening ss) s) t was_taken)
+    closed = ended_is_closed plan (happens plan (history plan places opening past ss) p.action (has_effect places p.event (closing opening ss) s)) t p.ends ends (accepted_stays plan (history plan places opening past ss) p.action (has_effect places p.event (closing opening ss) s) t was_taken)
 
     unrisked : (history plan places opening (p ∷ past) (s ∷ ss)).protocol.risked t ≡ false → (history plan places opening (p ∷ past) (s ∷ ss)).row t ≢ Some Committed
     unrisked n e = absurd (clash (sym (now.all.one.decided t e).risked ∙ n))

@@ -172,6 +172,8 @@ many_traced catalog name places at (event.Clock moment ∷ es) (s ∷ ss) before
     many_still catalog places at (event.Clock moment) es before m1 refl (many_traced catalog name places at es ss before m0 m1 (subst (λ (x : List StoreContents). IsTrace [] es x ss (one_store name m1)) t.0 t.1) about.1 ats shelved holds)
 many_traced catalog name places at (event.Idle c ∷ es) (s ∷ ss) before m0 m1 t about ats shelved holds =
     many_still catalog places at (event.Idle c) es before m1 refl (many_traced catalog name places at es ss before m0 m1 (subst (λ (x : List StoreContents). IsTrace [] es x ss (one_store name m1)) t.0 t.1) about.1 ats shelved holds)
+many_traced catalog name places at (event.Alter table column kind altered ∷ es) (s ∷ ss) before m0 m1 t about ats shelved holds =
+    many_still catalog places at (event.Alter table column kind altered) es before m1 refl (many_traced catalog name places at es ss before m0 m1 (subst (λ (x : List StoreContents). IsTrace [] es x ss (one_store name m1)) t.0 t.1) about.1 ats shelved holds)
 many_traced catalog name places at (event.Call c store q how r given ∷ es) (s ∷ ss) before m0 m1 t about ats shelved holds =
     let one = one_call name store q how r m0 s t.0 in
     let many = many_call catalog places at q how r before m0 one.left about.0 ats shelved holds one.performed in

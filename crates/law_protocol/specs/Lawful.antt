@@ -278,6 +278,7 @@ is_quiet (event.Stop client) = false
 is_quiet (event.Clock moment) = true
 is_quiet (event.Idle client) = true
 is_quiet (event.Land number store q how r) = false
+is_quiet (event.Alter table column kind altered) = true
 
 -- of a list of one key
 abbrev pub OfOneKey : List Key → (Key → Type 0) → Type 0
@@ -330,6 +331,7 @@ answer_of (event.Stop client) = None
 answer_of (event.Clock moment) = None
 answer_of (event.Idle client) = None
 answer_of (event.Land number store q how r) = None
+answer_of (event.Alter table column kind altered) = None
 
 -- Committed is answered to the COMMIT of a transaction that is known to be committed by then.
 pub record MayAnswer (plan : ℕ → Plan) (past : List Labelled) (p : Labelled) : Type 0 where

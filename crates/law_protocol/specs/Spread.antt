@@ -23,6 +23,7 @@ relocated_event at (event.Stop client) = event.Stop client
 relocated_event at (event.Clock moment) = event.Clock moment
 relocated_event at (event.Idle client) = event.Idle client
 relocated_event at (event.Land number store q how r) = event.Land number (at (table_asked q).ns) q how r
+relocated_event at (event.Alter table column kind altered) = event.Alter table column kind altered
 
 abbrev pub relocated_events : (Name → Name) → List Event → List Event
 relocated_events at = map (relocated_event at)

@@ -1,13 +1,19 @@
 -- Executions: the states of a script's clients and of the requests in flight, and their steps by the protocol, whatever the stores
 -- reply.
-use Rattle.std.specs.Prelude.{◌≡◌, ◌≢◌, ℕ, suc, ℤ, pos, ◌+◌, ◌-◌, ◌<◌, ◌^◌, true, false, List, [], ◌∷◌, ◌++◌, length, Option, Some, None, IfSome, IsSomeAnd, is_some, slice_get, slice_set}
-use Rattle.sdb_client.specs.Types.{Answer, Event, How, Key, Reply, Request, Script}
+use Rattle.std.specs.Prelude.{◌≡◌, ◌≢◌, ◌⊎◌, ℕ, suc, ℤ, pos, ◌+◌, ◌-◌, ◌<◌, ◌^◌, true, false, List, [], ◌∷◌, ◌++◌, length, Option, Some, None, IfSome, IsSomeAnd, is_some, slice_get, slice_set}
+use Rattle.sdb_client.specs.Types.{Answer, Event, How, Key, Reply, Request, Script, Table}
+use Rattle.sdb_types.specs.declared.key.TableName.{TableName}
 use Rattle.sdb_types.specs.declared.record.Reply.TheVariants as reply
 use Rattle.sdb_types.specs.Contents.{CanAnswer}
 use Rattle.sdb_record.specs.Meta.{is_moment}
+use Rattle.sdb_schema.specs.declared.table.Column.{Column}
+use Rattle.sdb_schema.specs.Added.{column_refused}
 use Rattle.sdb_schema.specs.Catalog.{is_catalog}
+use Rattle.sdb_model.specs.declared.event.Altered.{Altered}
+use Rattle.sdb_model.specs.declared.event.Altered.TheVariants as altered
 use Rattle.sdb_model.specs.declared.event.Event.TheVariants as event
 use Rattle.sdb_model.specs.declared.event.How.TheVariants.{Delayed}
+use Rattle.sdb_model.specs.Catalogs.{catalog_after, takes_column}
 use Rattle.sdb_model.specs.Exec.{find_table}
 use Rattle.sdb_model.specs.Follows.{IsHowOfStep, texts_of}
 use Rattle.sdb_client.specs.Client.{ClientAt, IsIdle, client_pending, next_id, nothing_done}
@@ -88,6 +94,14 @@ IsInVacuumAt client_slots i = IsSomeAnd (slice_get client_slots i) (λ s. (s.sto
 abbrev pub IsOpenAt : List ClientSlot → ℕ → Type 0
 IsOpenAt client_slots i = IsSomeAnd (slice_get client_slots i) (λ s. (s.stopped ≡ false) × (is_some s.client.txn ≡ true))
 
+-- no client that hasn't stopped has a transaction open or runs VACUUM
+abbrev pub AreQuiet : List ClientSlot → Type 0
+AreQuiet client_slots = (j : ℕ) → IsUnopened client_slots j × IsUnswept client_slots j
+
+-- some client that hasn't has, or does
+abbrev pub SomeActive : List ClientSlot → Type 0
+SomeActive client_slots = (j : ℕ) × (IsOpenAt client_slots j ⊎ IsInVacuumAt client_slots j)
+
 -- it holds of a client at some other place
 abbrev pub SomeAt : (List ClientSlot → ℕ → Type 0) → List ClientSlot → ℕ → Type 0
 SomeAt P client_slots i = (j : ℕ) × (j ≢ i) × P client_slots j
@@ -101,8 +115,9 @@ pub record IsGateAt (gate : Gate) (client_slots : List ClientSlot) (i : ℕ) : T
 
 ---- steps
 
--- A client that hasn't stopped and waits for a statement takes the next one of the script.
-pub record TakeStep (script : Script) (s : State) (c : ℕ) (text : List ℕ) (answer : Option Answer) (t : State) : Type 0 where
+-- A client that hasn't stopped and waits for a statement takes the next one of the script, under the catalog as it is after the events so
+-- far.
+pub record TakeStep (script : Script) (past : List Event) (s : State) (c : ℕ) (text : List ℕ) (answer : Option Answer) (t : State) : Type 0 where
   pub place : ℕ
   pub client_slot : ClientSlot
   pub gate : Gate
@@ -114,7 +129,7 @@ pub record TakeStep (script : Script) (s : State) (c : ℕ) (text : List ℕ) (a
   pub next : slice_get (texts_of script.clients c) client_slot.accepted ≡ Some text
   pub gated : IsGateAt gate s.client_slots place
   pub small : client.begun < 2 ^ 64
-  pub takes : Step client_slot.client (Takes (record { catalog = script.catalog; now = s.clock; gate = gate; fresh = next_id client_slot.client }) text) answer client
+  pub takes : Step client_slot.client (Takes (record { catalog = catalog_after script.catalog past; now = s.clock; gate = gate; fresh = next_id client_slot.client }) text) answer client
   pub left : t ≡ with_client_at s place (client_after client_slot 1 client)
 
 -- A client that hasn't stopped makes the call that it has pending, and takes a reply that this can get. A call that is delayed goes
@@ -155,29 +170,36 @@ pub record LandStep (s : State) (number : ℕ) (q : Request) (how : How) (r : Re
   pub stored : is_stored_reply r ≡ true
   pub left : t ≡ with_flights s (slice_set s.flights place None)
 
--- An event is a step from one state to another.
-abbrev pub IsStepFrom : Script → State → Event → State → Type 0
-IsStepFrom script s (event.Take c text answer) t = TakeStep script s c text answer t
-IsStepFrom script s (event.Call c store q how r answer) t = CallStep s c q how r answer t
-IsStepFrom script s (event.Stop c) t = StopStep s c t
-IsStepFrom script s (event.Clock moment) t = (is_moment moment ≡ true) × (t ≡ record { client_slots = s.client_slots; flights = s.flights; clock = moment })
-IsStepFrom script s (event.Idle c) t = t ≡ s
-IsStepFrom script s (event.Land number store q how r) t = LandStep s number q how r t
+-- What becomes of a column that is to be added to a table of a catalog: it is added while the clients are quiet, where the catalog takes it.
+abbrev pub AlterStep : List Table → List ClientSlot → TableName → Column → Altered → Type 0
+AlterStep catalog client_slots table c altered.Open = SomeActive client_slots
+AlterStep catalog client_slots table c (altered.Refused k) = AreQuiet client_slots × (column_refused catalog table c ≡ Some k)
+AlterStep catalog client_slots table c altered.Done = AreQuiet client_slots × (takes_column catalog table c ≡ true)
 
--- Events lead from one state to another, one step each.
-abbrev pub IsPath : Script → State → List Event → State → Type 0
-IsPath script s [] t = t ≡ s
-IsPath script s (e ∷ es) t = (u : State) × IsStepFrom script s e u × IsPath script u es t
+-- An event is a step from one state to another, after the events so far.
+abbrev pub IsStepFrom : Script → List Event → State → Event → State → Type 0
+IsStepFrom script past s (event.Take c text answer) t = TakeStep script past s c text answer t
+IsStepFrom script past s (event.Call c store q how r answer) t = CallStep s c q how r answer t
+IsStepFrom script past s (event.Stop c) t = StopStep s c t
+IsStepFrom script past s (event.Clock moment) t = (is_moment moment ≡ true) × (t ≡ record { client_slots = s.client_slots; flights = s.flights; clock = moment })
+IsStepFrom script past s (event.Idle c) t = t ≡ s
+IsStepFrom script past s (event.Land number store q how r) t = LandStep s number q how r t
+IsStepFrom script past s (event.Alter table column kind altered) t = AlterStep (catalog_after script.catalog past) s.client_slots table (record { name = column; kind = kind }) altered × (t ≡ s)
+
+-- Events lead from one state to another, one step each, after those before them.
+abbrev pub IsPath : Script → List Event → State → List Event → State → Type 0
+IsPath script past s [] t = t ≡ s
+IsPath script past s (e ∷ es) t = (u : State) × IsStepFrom script past s e u × IsPath script (past ++ e ∷ []) u es t
 
 -- Events lead to a state from an initial one.
 pub record IsReachedBy (script : Script) (events : List Event) (s : State) : Type 0 where
   pub first : State
   pub initial : IsInitial script first
-  pub path : IsPath script first events s
+  pub path : IsPath script [] first events s
 
 -- Events are an execution of a script's clients: they lead from an initial state to another.
 pub record IsExecution (script : Script) (events : List Event) : Type 0 where
   pub first : State
   pub last : State
   pub initial : IsInitial script first
-  pub path : IsPath script first events last
+  pub path : IsPath script [] first events last

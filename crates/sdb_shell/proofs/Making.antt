@@ -71,9 +71,30 @@ faults_still now old mid new c e result d goes works faults h on w none come = e
 
 alone_leads : (now : ℤ) (old new : Attached) (c : ClientAt) (result : Option Answer) (d : ClientAt) → HasCalled now old c result new d → GoOn old new → (w : WaitsOver now old c) → LeadsTo w.catalog w.was w.fresh now (Ok w.statement) (database_in new) w.opened result d
 alone_leads now old new c result d h goes w =
-    let f = w.well_formed in
-    replies w.catalog f.apart w.was f.sound f.tables f.are_images f.fit w.fresh now w.time w.statement (database_in old) (database_in new)
-    (own_at old.places (contents_of_views old.views)) (own_at new.places (contents_of_views new.views)) h.request h.reply here w.opened c h.pending result d h.took w.waits
+    replies
+    (record {
+      catalog = w.catalog;
+      was = w.was;
+      well_formed = w.well_formed;
+      fresh = w.fresh;
+      now = now;
+      time = w.time;
+      statement = w.statement;
+      g = database_in old;
+      h = database_in new;
+      own = own_at old.places (contents_of_views old.views);
+      own_then = own_at new.places (contents_of_views new.views);
+      request = h.request;
+      reply = h.reply;
+      called = here;
+      opened = w.opened;
+      before = c;
+      asked = h.pending;
+      waits = w.waits;
+      result = result;
+      after = d;
+      took = h.took;
+    })
   where
     here : Called h.request h.reply (database_in old) (database_in new)
     here = subst (λ (ps : List Place). Called h.request h.reply (database_in old) (database_of ps (contents_of_views new.views))) (sym goes.places)
