@@ -84,6 +84,7 @@ numbered_made c n (event.Call d store q how r a) m h = by (d == c) h
 numbered_made c n (event.Stop d) m h = absurd (cc)
 numbered_made c n (event.Clock moment) m h = absurd (cc)
 numbered_made c n (event.Idle d) m h = absurd (cc)
+numbered_made c n (event.Alter table column kind altered) m h = absurd (cc)
 numbered_made c n (event.Land number store q how r) m h = absurd (cc)
 
 numbers_below : (c n : ℕ) (es : List Event) → AllByRecursion (λ m. m.at < n + length es) (filter_map (made_by c) (enumerate_from n es))

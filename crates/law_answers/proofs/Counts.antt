@@ -346,6 +346,10 @@ sweep_so_far catalog calls v h = by (length calls) (length v.spans + rest_of_tab
     by : (a n b : ℕ) → a + n ≤ b → a ≤ b
     by a n b g = omega arith
 
+-- only the number of the tables counts
+pub counted_under : (catalog other : List Table) (calls : List StoreCall) (v : VacuumAt) → length other ≡ length catalog → VacuumIsCounted other calls v → VacuumIsCounted catalog calls v
+counted_under catalog other calls v same h = subst (λ (n : ℕ). length calls + (length v.spans + rest_of_table v.stage) ≤ n + (removals_in calls + 5 * length (unresolved_in calls))) same h
+
 -- one that begins
 pub sweep_begins : (t : Table) (ts : List Table) → VacuumIsCounted (t ∷ ts) [] (vacuum.begun (t ∷ ts))
 sweep_begins t ts = by (length (spans_of ts)) (length ts) (length-map ts whole)

@@ -13,7 +13,7 @@ use Rattle.sdb_types.specs.Contents.{CanAnswer}
 use Rattle.sdb_types.proofs.Public.{clash}
 use Rattle.sdb_record.specs.declared.access.Access.TheVariants as access
 use Rattle.sdb_model.specs.Calls.{StoreCall, calls_of}
-use Rattle.sdb_model.specs.Causes.{is_open_after}
+use Rattle.sdb_model.specs.Follows.{is_open_after}
 use Rattle.sdb_model.specs.Counted.{is_scan}
 use Rattle.sdb_model.specs.ReadSet.{KeyRead, ReadItem, SpanRead, read_item_of, read_items, has_read}
 use Rattle.sdb_model.specs.Sql.{reads_commit}

@@ -57,6 +57,7 @@ call_fits c allowed fit (event.Call d store q how r a) h = fit how r h.1
 call_fits c allowed fit (event.Stop d) h = absurd h
 call_fits c allowed fit (event.Clock moment) h = absurd h
 call_fits c allowed fit (event.Idle d) h = absurd h
+call_fits c allowed fit (event.Alter table column kind altered) h = absurd h
 call_fits c allowed fit (event.Land number store q how r) h = absurd h
 
 take_fits : (clients : List ScriptClient) (c : ℕ) (past : List Event) (e : Event) → IsTakeOf clients c past e → EventFits e
@@ -65,6 +66,7 @@ take_fits clients c past (event.Call d store q how r a) h = absurd h
 take_fits clients c past (event.Stop d) h = absurd h
 take_fits clients c past (event.Clock moment) h = absurd h
 take_fits clients c past (event.Idle d) h = absurd h
+take_fits clients c past (event.Alter table column kind altered) h = absurd h
 take_fits clients c past (event.Land number store q how r) h = absurd h
 
 step_fits : (clients : List ScriptClient) (c : ℕ) (allowed : How → Reply → Type 0) (fit : (how : How) (r : Reply) → allowed how r → HowFits how r) (past : List Event) (e : Event) → IsStep clients c allowed past e → EventFits e
@@ -86,16 +88,18 @@ landing_fits k (Some q) (event.Call c store asked how r a) h = absurd h
 landing_fits k (Some q) (event.Stop c) h = absurd h
 landing_fits k (Some q) (event.Clock moment) h = absurd h
 landing_fits k (Some q) (event.Idle c) h = absurd h
+landing_fits k (Some q) (event.Alter table column kind altered) h = absurd h
 landing_fits k (Some q) (event.Land number store asked how r) h = tt
 
-acted_fits : (clients : List ScriptClient) (a : Act) (past : List Event) (e : Event) → IsActed clients a past e → EventFits e
-acted_fits clients (act.Step c) past e h = step_fits clients c IsHowOfStep fits_step past e h
-acted_fits clients (act.Lose c) past e h = step_fits clients c IsHowOfLose fits_lose past e h
-acted_fits clients (act.Discard c) past e h = step_fits clients c IsHowOfDiscard fits_discard past e h
-acted_fits clients (act.Delay c) past e h = step_fits clients c IsHowOfDelay fits_delay past e h
-acted_fits clients (act.Land k) past e h = landing_fits k (in_flight k past) e h
-acted_fits clients (act.Stop c) past e h = subst EventFits (sym h) tt
-acted_fits clients (act.Clock moment) past e h = subst EventFits (sym h) tt
+acted_fits : (script : Script) (a : Act) (past : List Event) (e : Event) → IsActed script a past e → EventFits e
+acted_fits script (act.Step c) past e h = step_fits script.clients c IsHowOfStep fits_step past e h
+acted_fits script (act.Lose c) past e h = step_fits script.clients c IsHowOfLose fits_lose past e h
+acted_fits script (act.Discard c) past e h = step_fits script.clients c IsHowOfDiscard fits_discard past e h
+acted_fits script (act.Delay c) past e h = step_fits script.clients c IsHowOfDelay fits_delay past e h
+acted_fits script (act.Land k) past e h = landing_fits k (in_flight k past) e h
+acted_fits script (act.Stop c) past e h = subst EventFits (sym h) tt
+acted_fits script (act.Clock moment) past e h = subst EventFits (sym h) tt
+acted_fits script (act.Alter table column kind) past e h = subst EventFits (sym h.1) tt
 
 steps_fit : (clients : List ScriptClient) (c : ℕ) (past es : List Event) → AreStepsOf clients c past es → AllByRecursion EventFits es
 steps_fit clients c past [] h = tt
@@ -105,14 +109,14 @@ rest_fits : (clients : List ScriptClient) (from : ℕ) (past es : List Event) �
 rest_fits clients from past [] h = tt
 rest_fits clients from past (e ∷ es) h = (step_fits clients h.0 IsHowOfStep fits_step past e h.2, rest_fits clients (h.0 + 1) (past ++ e ∷ []) es h.3)
 
-move_fits : (clients : List ScriptClient) (m : Move) (past es : List Event) → IsOfMove clients m past es → AllByRecursion EventFits es
-move_fits clients (move.Act a) past es h = subst (AllByRecursion EventFits) (sym h.1) (acted_fits clients a past h.0 h.2, tt)
-move_fits clients (move.Repeat c times) past es h = steps_fit clients c past es h.1
-move_fits clients move.Rest past es h = rest_fits clients 1 past es h
+move_fits : (script : Script) (m : Move) (past es : List Event) → IsOfMove script m past es → AllByRecursion EventFits es
+move_fits script (move.Act a) past es h = subst (AllByRecursion EventFits) (sym h.1) (acted_fits script a past h.0 h.2, tt)
+move_fits script (move.Repeat c times) past es h = steps_fit script.clients c past es h.1
+move_fits script move.Rest past es h = rest_fits script.clients 1 past es h
 
-moves_fit : (clients : List ScriptClient) (ms : List Move) (past es : List Event) → AreOfMoves clients ms past es → AllByRecursion EventFits es
-moves_fit clients [] past es h = subst (AllByRecursion EventFits) (sym h) tt
-moves_fit clients (m ∷ ms) past es h = subst (AllByRecursion EventFits) (sym h.2) (append_all EventFits h.0 h.1 (move_fits clients m past h.0 h.3) (moves_fit clients ms (past ++ h.0) h.1 h.4))
+moves_fit : (script : Script) (ms : List Move) (past es : List Event) → AreOfMoves script ms past es → AllByRecursion EventFits es
+moves_fit script [] past es h = subst (AllByRecursion EventFits) (sym h) tt
+moves_fit script (m ∷ ms) past es h = subst (AllByRecursion EventFits) (sym h.2) (append_all EventFits h.0 h.1 (move_fits script m past h.0 h.3) (moves_fit script ms (past ++ h.0) h.1 h.4))
 
 ---- the calls among them
 
@@ -126,6 +130,7 @@ event_made c n (event.Call x store q how r a) m fits made = by (x == c) made
 event_made c n (event.Stop x) m fits made = none_some m made
 event_made c n (event.Clock moment) m fits made = none_some m made
 event_made c n (event.Idle x) m fits made = none_some m made
+event_made c n (event.Alter table column kind altered) m fits made = none_some m made
 event_made c n (event.Land number store q how r) m fits made = none_some m made
 
 calls_fit : (c n : ℕ) (es : List Event) (m : StoreCall) → AllByRecursion EventFits es → Contains (filter_map (made_by c) (enumerate_from n es)) m → HowFits m.how m.reply
@@ -141,7 +146,7 @@ calls_fit c n (e ∷ es) m fits has = by (made_by c (n, e)) refl has (λ among. 
         first (inr among) = later among
 
 said_fit : (script : Script) (events : List Event) → Follows script events → (c : ℕ) (s : Executed) (m : StoreCall) → Contains (calls_of events c s) m → HowFits m.how m.reply
-said_fit script events follows c s m among = calls_fit c 1 events m (moves_fit script.clients script.moves [] events follows) (kept_in (λ (x : StoreCall). nat_lt s.accepted x.at && nat_le x.at (end_of events s)) (calls_by events c) m among)
+said_fit script events follows c s m among = calls_fit c 1 events m (moves_fit script script.moves [] events follows) (kept_in (λ (x : StoreCall). nat_lt s.accepted x.at && nat_le x.at (end_of events s)) (calls_by events c) m among)
 
 pub seen_no_faults : (script : Script) (events : List Event) → Follows script events → SeenAreNoFaults events
 seen_no_faults script events follows c s m has among = (said_fit script events follows c s m among).0

@@ -1,7 +1,6 @@
 -- Why a statement has the answer that its plan gives.
-use Rattle.std.proofs.Common.{◌≡◌, ℕ, Bool, true, false, not, List, [], ◌∷◌, Option, Some, None, refl, sym, ap, subst, ◌∙◌, inr}
-use Rattle.std.specs.Prelude.{if◌then◌else◌, ◌&&◌, filter, find, is_some}
-use Rattle.std.specs.List.{AllByRecursion}
+use Rattle.std.proofs.Common.{◌≡◌, ℕ, Bool, true, false, not, List, [], Option, Some, None, refl, sym, ap, subst, ◌∙◌, inr}
+use Rattle.std.specs.Prelude.{if◌then◌else◌, ◌&&◌, find, is_some}
 use Rattle.std.specs.Option.{option_map}
 use Rattle.std.specs.Ordering.{is_eq}
 use Rattle.std.proofs.lemmas.Bool.{and_parts}
@@ -16,8 +15,10 @@ use Rattle.sdb_snapshot.specs.Seen.{Seen, overlay, tables_seen}
 use Rattle.law_clients.proofs.Public.{access_table, found_so, passes_all}
 use Rattle.sdb_model.specs.declared.answer.Answer.TheVariants as answer
 use Rattle.sdb_model.specs.declared.statement.Statement.TheVariants as statement
-use Rattle.sdb_model.specs.Causes.{IsBadRecord, IsCaused, MayPassMost, before, is_open, refused}
-use Rattle.sdb_model.specs.Exec.{all_rows, key_of, named_table}
+use Rattle.sdb_model.specs.Catalogs.{catalog_after}
+use Rattle.sdb_model.specs.Causes.{IsBadRecord, IsCaused, MayPassMost, before, refused}
+use Rattle.sdb_model.specs.Follows.{is_open}
+use Rattle.sdb_model.specs.Exec.{all_rows, find_table, key_of, named_table}
 use Rattle.sdb_model.specs.Sql.{Reads}
 use Rattle.sdb_model.specs.Transactions.{Executed, changes_nothing, is_conflict, is_done}
 use Rattle.sdb_exec.specs.declared.plan.PlanStep.TheVariants.{Finished}
@@ -26,20 +27,20 @@ use Rattle.sdb_txn.specs.Txn.{TxnAt}
 use Rattle.sdb_client.specs.Client.{given_answer, too_many}
 
 -- what a statement is answered on rows has its cause
-on_rows : (catalog : List Table) (events : List Event) (c : ℕ) (s : Executed) (t : Table) (st : Statement) (rows : List Image) → Reads s.text st → named_table catalog st ≡ Some t → is_open (before s events) c ≡ true → IsCaused catalog events c s (answer_on t st rows)
-on_rows catalog events c s t (statement.Insert i) rows reads named open_before = by (is_some (columns_at (key_of t i) rows))
+on_rows : (catalog under : List Table) (events : List Event) (c : ℕ) (s : Executed) (t : Table) (st : Statement) (rows : List Image) → catalog_after catalog (before s events) ≡ under → Reads s.text st → named_table under st ≡ Some t → is_open (before s events) c ≡ true → IsCaused catalog events c s (answer_on t st rows)
+on_rows catalog under events c s t (statement.Insert i) rows asked reads named open_before = by (is_some (columns_at (key_of t i) rows))
   where
     by : (b : Bool) → IsCaused catalog events c s (if b then answer.Duplicate (key_of t i) else answer.Count 1)
-    by true = (t, i, reads, named, refl)
+    by true = (t, i, reads, ap (λ (ts : List Table). find_table ts i.table) asked ∙ named, refl)
     by false = (statement.Insert i, reads, refl)
-on_rows catalog events c s t (statement.Upsert i) rows reads named open_before = (statement.Upsert i, reads, refl)
-on_rows catalog events c s t (statement.Update u) rows reads named open_before = (statement.Update u, reads, tt)
-on_rows catalog events c s t (statement.Delete d) rows reads named open_before = (statement.Delete d, reads, tt)
-on_rows catalog events c s t (statement.Select x) rows reads named open_before = (statement.Select x, reads, refl, open_before)
-on_rows catalog events c s t statement.Begin rows reads named open_before = none_some t named
-on_rows catalog events c s t statement.Commit rows reads named open_before = none_some t named
-on_rows catalog events c s t statement.Rollback rows reads named open_before = none_some t named
-on_rows catalog events c s t statement.Vacuum rows reads named open_before = none_some t named
+on_rows catalog under events c s t (statement.Upsert i) rows asked reads named open_before = (statement.Upsert i, reads, refl)
+on_rows catalog under events c s t (statement.Update u) rows asked reads named open_before = (statement.Update u, reads, tt)
+on_rows catalog under events c s t (statement.Delete d) rows asked reads named open_before = (statement.Delete d, reads, tt)
+on_rows catalog under events c s t (statement.Select x) rows asked reads named open_before = (statement.Select x, reads, refl, open_before)
+on_rows catalog under events c s t statement.Begin rows asked reads named open_before = none_some t named
+on_rows catalog under events c s t statement.Commit rows asked reads named open_before = none_some t named
+on_rows catalog under events c s t statement.Rollback rows asked reads named open_before = none_some t named
+on_rows catalog under events c s t statement.Vacuum rows asked reads named open_before = none_some t named
 
 -- what a plan that was asked gives, with no more keys than may be
 given_on : (catalog : List Table) (events : List Event) (c : ℕ) (s : Executed) (t : TxnAt) (x : PlanStep) (b : Answer) (ks : List Keyed) → (is_conflict (Some b) ≡ false → IsCaused catalog events c s b) → ((not (changes_nothing b) && too_many t ks) ≡ true → MayPassMost events c s) → x ≡ Finished b ks → is_conflict (Some (given_answer t x)) ≡ false → IsCaused catalog events c s (given_answer t x)
@@ -52,12 +53,12 @@ given_on catalog events c s t x b ks caused full e answered = subst (λ y. IsCau
 pub asked_gives : (p : Planned) (rows : List Image) (o : Option Key) → p.asked ≡ true → first_unfit p.table rows ≡ o → step_of p rows ≡ finished p.table p.statement rows o
 asked_gives p rows o asked e = ap (λ b. step_at b p.table p.statement rows) asked ∙ ap (finished p.table p.statement rows) e
 
-pub given_caused : (catalog : List Table) (events : List Event) (c : ℕ) (s : Executed) (p : Planned) (rows : List Image) (t : TxnAt) → Reads s.text p.statement → named_table catalog p.statement ≡ Some p.table → p.asked ≡ true → is_open (before s events) c ≡ true
+pub given_caused : (catalog under : List Table) (events : List Event) (c : ℕ) (s : Executed) (p : Planned) (rows : List Image) (t : TxnAt) → catalog_after catalog (before s events) ≡ under → Reads s.text p.statement → named_table under p.statement ≡ Some p.table → p.asked ≡ true → is_open (before s events) c ≡ true
     → ((key : Key) → first_unfit p.table rows ≡ Some key → IsBadRecord catalog events c s key) → (too_many t (changes_on p.table p.statement rows) ≡ true → MayPassMost events c s) → is_conflict (Some (given_answer t (step_of p rows))) ≡ false → IsCaused catalog events c s (given_answer t (step_of p rows))
-given_caused catalog events c s p rows t reads named asked open_before bad full = by (first_unfit p.table rows) refl
+given_caused catalog under events c s p rows t same reads named asked open_before bad full = by (first_unfit p.table rows) refl
   where
     by : (o : Option Key) → first_unfit p.table rows ≡ o → is_conflict (Some (given_answer t (step_of p rows))) ≡ false → IsCaused catalog events c s (given_answer t (step_of p rows))
-    by None e = given_on catalog events c s t (step_of p rows) (answer_on p.table p.statement rows) (changes_on p.table p.statement rows) (λ h. on_rows catalog events c s p.table p.statement rows reads named open_before) (λ m. full (and_parts (not (changes_nothing (answer_on p.table p.statement rows))) (too_many t (changes_on p.table p.statement rows)) m).1) (asked_gives p rows None asked e)
+    by None e = given_on catalog events c s t (step_of p rows) (answer_on p.table p.statement rows) (changes_on p.table p.statement rows) (λ h. on_rows catalog under events c s p.table p.statement rows same reads named open_before) (λ m. full (and_parts (not (changes_nothing (answer_on p.table p.statement rows))) (too_many t (changes_on p.table p.statement rows)) m).1) (asked_gives p rows None asked e)
     by (Some key) e = given_on catalog events c s t (step_of p rows) (answer.BadRecord key) [] (λ h. bad key e) (λ m. clash (sym m)) (asked_gives p rows (Some key) asked e)
 
 ---- it is no Done and no Conflict

@@ -6,7 +6,7 @@ use Rattle.std.proofs.lemmas.List.{append-nil}
 use Rattle.std.proofs.lemmas.List.Sums.{fold-append}
 use Rattle.law_answers.specs.Types.{Answer, Doing, Event, Table}
 use Rattle.sdb_model.specs.Calls.{calls_of, made_by}
-use Rattle.sdb_model.specs.Causes.{is_open, is_open_after, runs_vacuum}
+use Rattle.sdb_model.specs.Follows.{is_open, is_open_after, runs_vacuum}
 use Rattle.sdb_model.specs.Sql.{reads_begin, reads_commit, reads_rollback, reads_vacuum}
 use Rattle.sdb_model.specs.Transactions.{Executed, begins, ends, from_begin, is_conflict, is_done, rest_of, statements_by}
 use Rattle.sdb_exec.specs.Plans.{Planned}
@@ -28,7 +28,9 @@ use Rattle.law_answers.specs.Unfit.{AreStoredReplies}
 use Rattle.law_answers.specs.Invariant.{IsAnswered, IsDoing, IsReadSetOf, IsOpenAs, IsInVacuum, IsWaiting, Knows, DoingByHistory, ClientByHistory, open_after}
 use Rattle.law_answers.proofs.Filling.{filled_stays}
 use Rattle.law_answers.proofs.Lists.{since_more}
-use Rattle.law_answers.proofs.Calls.{calls_open, end_waiting, later_same, none_made}
+use Rattle.sdb_model.specs.Catalogs.{catalog_after}
+use Rattle.sdb_model.specs.Causes.{before}
+use Rattle.law_answers.proofs.Calls.{before_same, calls_open, end_waiting, later_same, none_made}
 use Rattle.law_answers.proofs.Later.{answered_stay, waiting_stays}
 use Rattle.law_answers.proofs.Counting.{counts_stay}
 use Rattle.law_answers.proofs.Rolled.{rolls_stay}
@@ -159,27 +161,40 @@ stays_on catalog c events e n acked w p o None all same s = stands_stay catalog 
 stays_on catalog c events e n acked None p o (Some v) all same s = s
 stays_on catalog c events e n acked (Some w) p o (Some v) all same s = (s.0, s.1, subst (λ ms. VacuumBy ms v) (sym (same w refl)) s.2)
 
+-- what is known of a client, whose open transaction runs under that catalog
+abbrev pub KnowsUnder : List Table → List Event → ℕ → ClientAt → List Table → Type 0
+KnowsUnder catalog events c h under = (k : Knows catalog events c h) × (k.under ≡ under)
+
 -- An event that isn't of a client, with which it says and calls nothing, leaves what is known of it.
-pub knows_still : (catalog : List Table) (c : ℕ) (events : List Event) (e : Event) (h : ClientAt) → statements_by c (events ++ e ∷ []) ≡ statements_by c events → made_by c (1 + length events, e) ≡ None → Knows catalog events c h → Knows catalog (events ++ e ∷ []) c h
-knows_still catalog c events e h nothing none k = record {
-  entries = k.entries;
-  waiting = k.waiting;
-  same = nothing ∙ k.same;
-  answered = answered_stay catalog c events e k.entries (inl nothing) k.answered;
-  waits = waits k.waiting k.waits;
-  moved = moved_still catalog events e c k.entries k.entries k.answered k.moved;
-  number = k.number;
-  begun = k.begun;
-  small = k.small;
-  agrees = stays_on catalog c events e h.begun k.entries k.waiting h.plan h.txn h.vacuum k.answered (λ x is. calls_wait catalog c events e x none (unanswered k.waiting k.waits x is)) k.agrees;
-  counted = counts_stay catalog c events e k.entries k.waiting h k.answered k.counted (λ x is. calls_wait catalog c events e x none (unanswered k.waiting k.waits x is));
-  filled = filled_stays catalog events e c (rest_of (from_begin h.begun k.entries)) h.txn (rest_all (IsAnswered catalog events c) h.begun k.entries k.answered) k.filled;
-  fits = fits_stay catalog events e c h.begun k.entries h.txn k.answered k.fits;
-  stored = subst AreStoredReplies (sym (none_made c events e none)) k.stored;
-  rolled = rolls_stay catalog c events e k.entries k.waiting h k.answered k.rolled (λ x is. calls_wait catalog c events e x none (unanswered k.waiting k.waits x is));
-  shows = shows_stay catalog c events e k.entries k.answered h k.shows;
-}
+pub knows_still : (catalog : List Table) (c : ℕ) (events : List Event) (e : Event) (h : ClientAt) → statements_by c (events ++ e ∷ []) ≡ statements_by c events → made_by c (1 + length events, e) ≡ None → (k : Knows catalog events c h) → KnowsUnder catalog (events ++ e ∷ []) c h k.under
+knows_still catalog c events e h nothing none k = (
+  record {
+    entries = k.entries;
+    waiting = k.waiting;
+    under = k.under;
+    asked = asked k.waiting k.waits k.asked;
+    same = nothing ∙ k.same;
+    answered = answered_stay catalog c events e k.entries (inl nothing) k.answered;
+    waits = waits k.waiting k.waits;
+    moved = moved_still catalog events e c k.entries k.entries k.answered k.moved;
+    number = k.number;
+    begun = k.begun;
+    small = k.small;
+    agrees = stays_on catalog c events e h.begun k.entries k.waiting h.plan h.txn h.vacuum k.answered (λ x is. calls_wait catalog c events e x none (unanswered k.waiting k.waits x is)) k.agrees;
+    counted = counts_stay catalog c events e k.entries k.waiting h k.answered k.counted (λ x is. calls_wait catalog c events e x none (unanswered k.waiting k.waits x is));
+    filled = filled_stays catalog events e c (rest_of (from_begin h.begun k.entries)) h.txn (rest_all (IsAnswered catalog events c) h.begun k.entries k.answered) k.filled;
+    fits = fits_stay catalog k.under events e c h.begun k.entries h.txn k.answered k.fits;
+    stored = subst AreStoredReplies (sym (none_made c events e none)) k.stored;
+    rolled = rolls_stay catalog c events e k.entries k.waiting h k.answered k.rolled (λ x is. calls_wait catalog c events e x none (unanswered k.waiting k.waits x is));
+    shows = shows_stay catalog k.under c events e k.entries k.answered h k.shows;
+  },
+  refl,
+)
   where
+    asked : (o : Option Executed) → IfSome o (IsWaiting catalog events c (is_some h.vacuum)) → IfSome o (λ w. catalog_after catalog (before w events) ≡ k.under) → IfSome o (λ w. catalog_after catalog (before w (events ++ e ∷ [])) ≡ k.under)
+    asked None w u = tt
+    asked (Some x) w u = ap (catalog_after catalog) (before_same x events e w.accepted) ∙ u
+
     waits : (o : Option Executed) → IfSome o (IsWaiting catalog events c (is_some h.vacuum)) → IfSome o (IsWaiting catalog (events ++ e ∷ []) c (is_some h.vacuum))
     waits None w = tt
     waits (Some x) w = waiting_stays catalog c events e (is_some h.vacuum) x w

@@ -8,10 +8,13 @@ use Rattle.sdb_types.specs.declared.record.Reply.TheVariants as reply
 use Rattle.sdb_types.specs.declared.record.Request.TheVariants as ask
 use Rattle.sdb_record.specs.declared.coordinator.Decision.TheVariants as decision
 use Rattle.sdb_record.specs.Coordinator.{coordinator_key_of, is_expired}
+use Rattle.sdb_model.specs.Catalogs.{catalog_after}
+use Rattle.sdb_model.specs.Exec.{find_table}
 use Rattle.sdb_model.specs.declared.answer.Answer.TheVariants as answer
 use Rattle.sdb_model.specs.declared.statement.Statement.TheVariants as statement
 use Rattle.sdb_model.specs.Calls.{StoreCall, calls_after, calls_before, calls_of, decision_learned, is_of_row, is_read, records_read, records_observed}
-use Rattle.sdb_model.specs.Causes.{HasReply, IsBad, IsBusy, IsCaused, IsCommitOf, IsCounted, IsDecided, IsRejected, MayPassMost, PutsRow, is_open, removes}
+use Rattle.sdb_model.specs.Causes.{HasReply, IsBad, IsBusy, IsCaused, IsCommitOf, IsCounted, IsDecided, IsRejected, MayPassMost, PutsRow, removes}
+use Rattle.sdb_model.specs.Follows.{is_open}
 use Rattle.sdb_model.specs.Sql.{reads_commit}
 use Rattle.sdb_model.specs.Transactions.{Executed, client_of, ends, from_begin, is_conflict, ordinal_of, rest_of, statements_by}
 use Rattle.sdb_types.proofs.Public.{clash, none_some, some_is}
@@ -86,7 +89,7 @@ caused_stays catalog c events e s (answer.Rows rows) k t h = (h.0, h.1, h.2, ap 
 caused_stays catalog c events e s (answer.Count n) k t h = (h.0, h.1, counted_stays c events e s h.0 n (calls_stay c events e s (answer.Count n) k.is k.answered) h.2)
 caused_stays catalog c events e s answer.Done k t h = h
 caused_stays catalog c events e s answer.Committed k t h = (h.0, k.commit h.0 h.1, subst (λ ms. IsDecided decision.Committed (decision_learned ms h.0)) (sym (calls_stay c events e s answer.Committed k.is k.answered)) h.2)
-caused_stays catalog c events e s (answer.Duplicate key) k t h = h
+caused_stays catalog c events e s (answer.Duplicate key) k t h = (h.0, h.1, h.2, ap (λ (es : List Event). find_table (catalog_after catalog es) h.1.table) (before_same s events e k.accepted) ∙ h.3, h.4)
 caused_stays catalog c events e s (answer.Busy key id at) k t h = busy (sym (calls_stay c events e s (answer.Busy key id at) k.is k.answered))
   where
     within : h.early.asked.at ≤ length events
@@ -127,7 +130,7 @@ caused_stays catalog c events e s (answer.BadRecord key) k t h = by h
   where
     by : IsCaused catalog events c s (answer.BadRecord key) → IsCaused catalog (events ++ e ∷ []) c s (answer.BadRecord key)
     by (inl x) = inl (subst (BadIn key) (sym (calls_stay c events e s (answer.BadRecord key) k.is k.answered)) x)
-    by (inr x) = inr (meets_stays catalog c events e s (answer.BadRecord key) key k.grows k.is x)
+    by (inr x) = inr (meets_stays catalog c events e s (answer.BadRecord key) key k.grows k.is k.accepted x)
 caused_stays catalog c events e s (answer.Refused r) k t h = by h
   where
     by : IsCaused catalog events c s (answer.Refused r) → IsCaused catalog (events ++ e ∷ []) c s (answer.Refused r)

@@ -8,7 +8,7 @@ use Rattle.law_answers.specs.Types.{Answer, Doing, Event, Key, Statement, Table}
 use Rattle.sdb_types.proofs.Public.{clash, none_some}
 use Rattle.sdb_model.specs.Access.{in_access}
 use Rattle.sdb_model.specs.Calls.{calls_of, records_read}
-use Rattle.sdb_model.specs.Causes.{MeetsMisfit, is_misfit}
+use Rattle.sdb_model.specs.Causes.{MeetsMisfit, before, is_misfit}
 use Rattle.sdb_model.specs.Exec.{find_table, named_table}
 use Rattle.sdb_model.specs.ReadSet.{has_read, read_finished, reads_rows}
 use Rattle.sdb_model.specs.Reads.{access_of}
@@ -21,7 +21,8 @@ use Rattle.law_clients.specs.Fitting.{row_is_well_typed}
 use Rattle.law_clients.proofs.Public.{each_more}
 use Rattle.law_answers.specs.Invariant.{IsAnswered}
 use Rattle.law_answers.specs.Unfit.{IsFitOrReadTxn, SeesFitOrRead, SeesFitOrReadIn, WasMisfit}
-use Rattle.law_answers.proofs.Calls.{calls_stay, read_stays}
+use Rattle.law_answers.proofs.Calls.{before_same, calls_stay, read_stays}
+use Rattle.sdb_model.specs.Catalogs.{catalog_after}
 use Rattle.law_answers.proofs.Lists.{each_in, since_more}
 use Rattle.law_answers.proofs.ReadSets.{rest_all, since_all}
 use Rattle.law_answers.proofs.Passing.{Grows, all_reached, in_grows, in_last, part_all, taken_before}
@@ -54,8 +55,8 @@ module _ (catalog : List Table) (events : List Event) (c : ℕ) where
 
 ---- one event more
 
-module _ (catalog : List Table) (events : List Event) (e : Event) (c : ℕ) where
-  misfit_still : (body : List Executed) (key : Key) → AllByRecursion (IsAnswered catalog events c) body → WasMisfit catalog events c body key → WasMisfit catalog (events ++ e ∷ []) c body key
+module _ (catalog under : List Table) (events : List Event) (e : Event) (c : ℕ) where
+  misfit_still : (body : List Executed) (key : Key) → AllByRecursion (IsAnswered catalog events c) body → WasMisfit under events c body key → WasMisfit under (events ++ e ∷ []) c body key
   misfit_still body key all m =
       let k : IsAnswered catalog events c m.reader = each_in (IsAnswered catalog events c) body m.reader all m.among in
       let calls : calls_of (events ++ e ∷ []) c m.reader ≡ calls_of events c m.reader = calls_stay c events e m.reader k.given k.is k.answered in
@@ -66,19 +67,19 @@ module _ (catalog : List Table) (events : List Event) (e : Event) (c : ℕ) wher
         among = m.among;
         finished = read_stays c events e m.reader k.given k.is k.answered ∙ m.finished;
         reads = subst (λ ms. Contains ms m.call × (reads_rows m.call ≡ true) × Contains (records_read m.call.reply) m.found × (m.found.key ≡ key)) (sym calls) m.reads;
-        misfit = ap (λ ms. is_misfit catalog ms m.found) calls ∙ m.misfit;
+        misfit = ap (λ ms. is_misfit under ms m.found) calls ∙ m.misfit;
       }
 
-  pub fits_still : (body : List Executed) (v : Seen) → AllByRecursion (IsAnswered catalog events c) body → SeesFitOrRead catalog events c body v → SeesFitOrRead catalog (events ++ e ∷ []) c body v
-  fits_still body v all sees = sees_by catalog events (events ++ e ∷ []) c body body v (λ key m. misfit_still body key all m) sees
+  pub fits_still : (body : List Executed) (v : Seen) → AllByRecursion (IsAnswered catalog events c) body → SeesFitOrRead under events c body v → SeesFitOrRead under (events ++ e ∷ []) c body v
+  fits_still body v all sees = sees_by under events (events ++ e ∷ []) c body body v (λ key m. misfit_still body key all m) sees
 
-  in_still : (body : List Executed) (v : Seen) (d : Doing) → AllByRecursion (IsAnswered catalog events c) body → SeesFitOrReadIn catalog events c body v d → SeesFitOrReadIn catalog (events ++ e ∷ []) c body v d
+  in_still : (body : List Executed) (v : Seen) (d : Doing) → AllByRecursion (IsAnswered catalog events c) body → SeesFitOrReadIn under events c body v d → SeesFitOrReadIn under (events ++ e ∷ []) c body v d
   in_still body v doing.Idle all h = fits_still body v all h
   in_still body v (doing.Read a x) all h = fits_still body v all h
   in_still body v (doing.Commit k) all h = tt
   in_still body v doing.Over all h = fits_still body v all h
 
-  pub fits_stay : (n : ℕ) (answered : List Executed) (o : Option TxnAt) → AllByRecursion (IsAnswered catalog events c) answered → IfSome o (IsFitOrReadTxn catalog events c (rest_of (from_begin n answered))) → IfSome o (IsFitOrReadTxn catalog (events ++ e ∷ []) c (rest_of (from_begin n answered)))
+  pub fits_stay : (n : ℕ) (answered : List Executed) (o : Option TxnAt) → AllByRecursion (IsAnswered catalog events c) answered → IfSome o (IsFitOrReadTxn under events c (rest_of (from_begin n answered))) → IfSome o (IsFitOrReadTxn under (events ++ e ∷ []) c (rest_of (from_begin n answered)))
   fits_stay n answered None all h = tt
   fits_stay n answered (Some t) all h = in_still (rest_of (from_begin n answered)) t.seen t.doing (rest_all (IsAnswered catalog events c) n answered all) h
 
@@ -93,8 +94,8 @@ read_answered events c s finished = by s.answer refl finished
     by (Some a) is h = (a, is)
 
 -- One that was answered BadRecord of such a row still met it.
-pub meets_stays : (catalog : List Table) (c : ℕ) (events : List Event) (e : Event) (s : Executed) (a : Answer) (key : Key) → Grows (statements_by c events) (statements_by c (events ++ e ∷ [])) → s.answer ≡ Some a → MeetsMisfit catalog events c s key → MeetsMisfit catalog (events ++ e ∷ []) c s key
-meets_stays catalog c events e s a key grows is h = record {
+pub meets_stays : (catalog : List Table) (c : ℕ) (events : List Event) (e : Event) (s : Executed) (a : Answer) (key : Key) → Grows (statements_by c events) (statements_by c (events ++ e ∷ [])) → s.answer ≡ Some a → s.accepted ≤ length events → MeetsMisfit catalog events c s key → MeetsMisfit catalog (events ++ e ∷ []) c s key
+meets_stays catalog c events e s a key grows is low h = record {
   id = h.id;
   statement = h.statement;
   table = h.table;
@@ -106,10 +107,10 @@ meets_stays catalog c events e s a key grows is h = record {
     (h.within.1.0, in_grows (ordinal_of h.id) (statements_by (client_of h.id) events) (statements_by (client_of h.id) (events ++ e ∷ [])) h.reader given.0 given.1 grows_id h.within.1.1),
     h.within.2,
   );
-  over = h.over;
+  over = subst (λ (es : List Event). Reads s.text h.statement × (named_table (catalog_after catalog es) h.statement ≡ Some h.table) × (in_access (access_of h.table h.statement) key ≡ true)) (sym (before_same s events e low)) h.over;
   finished = read_stays c events e h.reader given.0 given.1 reached ∙ h.finished;
   reads = subst (λ ms. Contains ms h.call × (reads_rows h.call ≡ true) × Contains (records_read h.call.reply) h.found × (h.found.key ≡ key)) (sym calls) h.reads;
-  misfit = ap (λ ms. is_misfit catalog ms h.found) calls ∙ h.misfit;
+  misfit = ap (λ (es : List Event). is_misfit (catalog_after catalog es) (calls_of (events ++ e ∷ []) c h.reader) h.found) (before_same s events e low) ∙ ap (λ ms. is_misfit (catalog_after catalog (before s events)) ms h.found) calls ∙ h.misfit;
 }
   where
     grows_id : Grows (statements_by (client_of h.id) events) (statements_by (client_of h.id) (events ++ e ∷ []))
@@ -132,9 +133,9 @@ meets_stays catalog c events e s a key grows is h = record {
 
 -- The last statement of a client meets a row that doesn't fit where it reads at its key, and it or one before it of its open transaction
 -- read the row.
-pub meets_now : (catalog : List Table) (c n : ℕ) (events : List Event) (answered : List Executed) (begin s : Executed) (body : List Executed) (st : Statement) (table : Table) (key : Key) → n < 2 ^ 64 → statements_by c events ≡ answered ++ s ∷ [] → from_begin n answered ≡ begin ∷ body → AllByRecursion (λ x. ends x ≡ false) body
-    → Reads s.text st → named_table catalog st ≡ Some table → in_access (access_of table st) key ≡ true → WasMisfit catalog events c (body ++ s ∷ []) key → MeetsMisfit catalog events c s key
-meets_now catalog c n events answered begin s body st table key small same since goes_on reads named inside m = record {
+pub meets_now : (catalog under : List Table) (c n : ℕ) (events : List Event) (answered : List Executed) (begin s : Executed) (body : List Executed) (st : Statement) (table : Table) (key : Key) → catalog_after catalog (before s events) ≡ under → n < 2 ^ 64 → statements_by c events ≡ answered ++ s ∷ [] → from_begin n answered ≡ begin ∷ body → AllByRecursion (λ x. ends x ≡ false) body
+    → Reads s.text st → named_table under st ≡ Some table → in_access (access_of table st) key ≡ true → WasMisfit under events c (body ++ s ∷ []) key → MeetsMisfit catalog events c s key
+meets_now catalog under c n events answered begin s body st table key asked small same since goes_on reads named inside m = record {
   id = id_of c n;
   statement = st;
   table = table;
@@ -146,10 +147,10 @@ meets_now catalog c n events answered begin s body st table key small same since
     in_last c n events answered begin s body small same since goes_on m.reader m.among,
     each_in (λ (b : Executed). b.accepted ≤ s.accepted) (body ++ s ∷ []) m.reader (each_more (λ (b : Executed). b.accepted ≤ s.accepted) body s (below body (since_all (λ (b : Executed). b.accepted < s.accepted) n answered begin body (taken_before c events answered s same) since)) (itself s.accepted)) m.among,
   );
-  over = (reads, named, inside);
+  over = (reads, ap (λ (ts : List Table). named_table ts st) asked ∙ named, inside);
   finished = m.finished;
   reads = m.reads;
-  misfit = m.misfit;
+  misfit = ap (λ (ts : List Table). is_misfit ts (calls_of events c m.reader) m.found) asked ∙ m.misfit;
 }
   where
     itself : (k : ℕ) → k ≤ k

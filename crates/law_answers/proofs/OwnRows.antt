@@ -124,7 +124,7 @@ first_front : (P : Executed → Type 0) (xs : List Executed) (first : Executed) 
 first_front P [] first b all = absurd b
 first_front P (x ∷ xs) first b all = subst P (sym b) all.0
 
-module _ (catalog : List Table) (events : List Event) (e : Event) (c : ℕ) where
+module _ (catalog under : List Table) (events : List Event) (e : Event) (c : ℕ) where
   abbrev E : List Event
   E = events ++ e ∷ []
 
@@ -138,22 +138,22 @@ module _ (catalog : List Table) (events : List Event) (e : Event) (c : ℕ) wher
   stay_changing : (body earlier changing : List Executed) → AllByRecursion (IsAnswered catalog events c) body → body ≡ earlier ++ changing → AllByRecursion Stays changing
   stay_changing body earlier changing all parts = each_changing Stays body earlier changing parts (stay_all body all)
 
-  found_still : (s : Executed) (key : Key) (row : Option (List Pair)) → Stays s → FoundFor catalog events c s key row → FoundFor catalog E c s key row
+  found_still : (s : Executed) (key : Key) (row : Option (List Pair)) → Stays s → FoundFor under events c s key row → FoundFor under E c s key row
   found_still s key row same f = record { answered = ap (λ ms. has_finished ms s) same ∙ f.answered; no_vacuum = f.no_vacuum; table = f.table; found = subst (λ (ms : List StoreCall). WasFound ms key row) (sym same) f.found }
 
-  before_still : (body : List Executed) (s : Executed) (key : Key) (row : Option (List Pair)) → AllByRecursion (IsAnswered catalog events c) body → Stays s → HasBefore catalog events c body s key row → HasBefore catalog E c body s key row
+  before_still : (body : List Executed) (s : Executed) (key : Key) (row : Option (List Pair)) → AllByRecursion (IsAnswered catalog events c) body → Stays s → HasBefore under events c body s key row → HasBefore under E c body s key row
   before_still body s key row all same h = record { first = h.first; earlier = h.earlier; changing = h.changing; sts = h.sts; base = h.base; parts = h.parts; begins = h.begins; observed = found_still h.first key h.base (first_so Stays h.changing s h.first h.begins (stay_changing body h.earlier h.changing all h.parts) same) h.observed; read = h.read; made = h.made }
 
-  after_still : (body : List Executed) (key : Key) (row : Option (List Pair)) → AllByRecursion (IsAnswered catalog events c) body → HasAfter catalog events c body key row → HasAfter catalog E c body key row
+  after_still : (body : List Executed) (key : Key) (row : Option (List Pair)) → AllByRecursion (IsAnswered catalog events c) body → HasAfter under events c body key row → HasAfter under E c body key row
   after_still body key row all h = record { first = h.first; earlier = h.earlier; changing = h.changing; sts = h.sts; base = h.base; parts = h.parts; begins = h.begins; observed = found_still h.first key h.base (first_front Stays h.changing h.first h.begins (stay_changing body h.earlier h.changing all h.parts)) h.observed; read = h.read; made = h.made }
 
-  pub sees_still : (body : List Executed) (v : Seen) → AllByRecursion (IsAnswered catalog events c) body → SeesOwn catalog events c body v → SeesOwn catalog E c body v
+  pub sees_still : (body : List Executed) (v : Seen) → AllByRecursion (IsAnswered catalog events c) body → SeesOwn under events c body v → SeesOwn under E c body v
   sees_still body v all sees key as_read fits = after_still body key _ all (sees key as_read fits)
 
-  rows_still : (body : List Executed) (s : Executed) (rows : List (List Value)) → AllByRecursion (IsAnswered catalog events c) body → Stays s → GivesRows catalog events c body s rows → GivesRows catalog E c body s rows
-  rows_still body s rows all same (t, select, images, reads, found, observed, own) = (t, select, images, reads, found, observed, each_any (λ (r : Image). HasBefore catalog events c body s r.key (Some r.columns)) (λ (r : Image). HasBefore catalog E c body s r.key (Some r.columns)) images (λ r h. before_still body s r.key (Some r.columns) all same h) own)
+  rows_still : (body : List Executed) (s : Executed) (rows : List (List Value)) → AllByRecursion (IsAnswered catalog events c) body → Stays s → GivesRows under events c body s rows → GivesRows under E c body s rows
+  rows_still body s rows all same (t, select, images, reads, found, observed, own) = (t, select, images, reads, found, observed, each_any (λ (r : Image). HasBefore under events c body s r.key (Some r.columns)) (λ (r : Image). HasBefore under E c body s r.key (Some r.columns)) images (λ r h. before_still body s r.key (Some r.columns) all same h) own)
 
-  pub tells_still : (body : List Executed) (s : Executed) (a : Answer) → AllByRecursion (IsAnswered catalog events c) body → Stays s → GivesOwn catalog events c body s a → GivesOwn catalog E c body s a
+  pub tells_still : (body : List Executed) (s : Executed) (a : Answer) → AllByRecursion (IsAnswered catalog events c) body → Stays s → GivesOwn under events c body s a → GivesOwn under E c body s a
   tells_still body s (answer.Rows rows) all same h = rows_still body s rows all same h
   tells_still body s (answer.Duplicate key) all same h = (h.0, before_still body s key (Some h.0) all same h.1)
   tells_still body s a all same h = tt

@@ -26,18 +26,18 @@ use Rattle.law_answers.proofs.Takings.{left_idle}
 use Rattle.law_answers.proofs.Unfit.{table_at}
 use Rattle.sdb_client.proofs.Public.{reading_stays_idle}
 
-module _ (catalog : List Table) (c : ℕ) (events : List Event) (e : Event) (acked : List Executed) (all : AllByRecursion (IsAnswered catalog events c) acked) (n : ℕ) (begin : Executed) (body : List Executed) (since : from_begin n acked ≡ begin ∷ body) (number : n ≡ begun_in acked)
-    (t : TxnAt) (sees : SeesOwn catalog events c body t.seen) (kept : WereRead t.seen.read_set t.seen.writes) (z : Executed) (p : Planned) (a : Access) (calls : List StoreCall) (images : List Record) (are : calls_of (events ++ e ∷ []) c z ≡ calls) (h : HasRead (request_of a) calls images []) where
+module _ (catalog under : List Table) (c : ℕ) (events : List Event) (e : Event) (acked : List Executed) (all : AllByRecursion (IsAnswered catalog events c) acked) (n : ℕ) (begin : Executed) (body : List Executed) (since : from_begin n acked ≡ begin ∷ body) (number : n ≡ begun_in acked)
+    (t : TxnAt) (sees : SeesOwn under events c body t.seen) (kept : WereRead t.seen.read_set t.seen.writes) (z : Executed) (p : Planned) (a : Access) (calls : List StoreCall) (images : List Record) (are : calls_of (events ++ e ∷ []) c z ≡ calls) (h : HasRead (request_of a) calls images []) where
   abbrev E : List Event
   E = events ++ e ∷ []
 
   abbrev v : TxnAt
   v = with_rows_read t a images
 
-  pub read_next : is_catalog catalog ≡ true → Reads z.text p.statement → reads_vacuum z.text ≡ false → named_table catalog p.statement ≡ Some p.table → p.asked ≡ true → a ≡ access_of p.table p.statement → z.answer ≡ Some (given_answer v (gives p a v)) → has_read E c z ≡ true
-      → (open_after acked ≡ true → GivesOwn catalog E c (rest_of (from_begin (begun_in acked) acked)) z (given_answer v (gives p a v))) × IsViewOf catalog E c (rest_of (from_begin n (acked ++ z ∷ []))) (given_left v (gives p a v))
+  pub read_next : is_catalog under ≡ true → Reads z.text p.statement → reads_vacuum z.text ≡ false → named_table under p.statement ≡ Some p.table → p.asked ≡ true → a ≡ access_of p.table p.statement → z.answer ≡ Some (given_answer v (gives p a v)) → has_read E c z ≡ true
+      → (open_after acked ≡ true → GivesOwn under E c (rest_of (from_begin (begun_in acked) acked)) z (given_answer v (gives p a v))) × IsViewOf under E c (rest_of (from_begin n (acked ++ z ∷ []))) (given_left v (gives p a v))
   read_next is reads no_vacuum named asked access_is answered finished =
-      let before : SeesOwn catalog E c body t.seen = sees_then catalog c events e acked all n begin body since t.seen sees z in
-      next_given catalog E c n acked z begin body p a v since number is reads named asked access_is answered (left_idle v (gives p a v) (reading_stays_idle t a images)) (kept_now t a images kept)
-      (now_has catalog E c body z a t images (subst (λ cs. HasRead (request_of a) cs images []) (sym are) h) kept before no_vacuum
-      (λ q inside. ap is_some (table_at catalog p a (found_itself catalog (table_of p.statement) p.table named) (ap access_table access_is ∙ own_table p.table p.statement) q inside)) finished)
+      let before : SeesOwn under E c body t.seen = sees_then catalog under c events e acked all n begin body since t.seen sees z in
+      next_given under E c n acked z begin body p a v since number is reads named asked access_is answered (left_idle v (gives p a v) (reading_stays_idle t a images)) (kept_now t a images kept)
+      (now_has under E c body z a t images (subst (λ cs. HasRead (request_of a) cs images []) (sym are) h) kept before no_vacuum
+      (λ q inside. ap is_some (table_at under p a (found_itself under (table_of p.statement) p.table named) (ap access_table access_is ∙ own_table p.table p.statement) q inside)) finished)

@@ -6,6 +6,9 @@ use Rattle.std.proofs.lemmas.List.{append-nil}
 use Rattle.std.proofs.lemmas.List.Elements.{All-contains_itself, recursion_from_All}
 use Rattle.law_answers.specs.Types.{Answer, Event, Image, Key, Pair, Table, TxId}
 use Rattle.sdb_types.proofs.Public.{all_each as each_any, one_of}
+use Rattle.sdb_model.specs.Catalogs.{catalog_after}
+use Rattle.sdb_model.specs.Causes.{before}
+use Rattle.sdb_model.proofs.Public.{same_tables}
 use Rattle.sdb_model.specs.declared.answer.Answer.TheVariants as answer
 use Rattle.sdb_model.specs.DirtyReads.{AnswersHaveRows, HasRow, AnswersAreOf}
 use Rattle.sdb_model.specs.ReadSet.{has_read}
@@ -55,7 +58,11 @@ parted (x ∷ xs) s has = by (ends x) refl (λ h. parted xs s h) has
 
 module _ (catalog : List Table) (events : List Event) (c : ℕ) (id : TxId) (client : client_of id ≡ c) (s : Executed) (body post : List Executed) (statements : statements_of events id ≡ body ++ s ∷ post)
     (among : AllByRecursion (Contains (statements_by c events)) body) (last : Contains (statements_by c events) s) where
-  row_own : (key : Key) (row : Option (List Pair)) → HasBefore catalog events c body s key row → HasRow catalog (WasRead catalog events c) events id s key row
+  -- the catalog under which it ran
+  abbrev under : List Table
+  under = catalog_after catalog (before s events)
+
+  row_own : (key : Key) (row : Option (List Pair)) → HasBefore under events c body s key row → HasRow catalog (WasRead catalog events c) events id s key row
   row_own key row h = record {
     first = h.first;
     earlier = h.earlier;
@@ -66,12 +73,12 @@ module _ (catalog : List Table) (events : List Event) (c : ℕ) (id : TxId) (cli
     parts = statements ∙ ap (λ xs. xs ++ s ∷ post) h.parts;
     begins = h.begins;
     finished = subst (λ d. has_read events d h.first ≡ true) (sym client) h.observed.answered;
-    observed = (first_so (Contains (statements_by c events)) h.changing s h.first h.begins (each_changing (Contains (statements_by c events)) body h.earlier h.changing h.parts among) last, h.observed);
+    observed = (first_so (Contains (statements_by c events)) h.changing s h.first h.begins (each_changing (Contains (statements_by c events)) body h.earlier h.changing h.parts among) last, record { answered = h.observed.answered; no_vacuum = h.observed.no_vacuum; table = sym (same_tables catalog (before s events) key.table) ∙ h.observed.table; found = h.observed.found });
     read = h.read;
     made = h.made;
   }
 
-  shows_own : (a : Answer) → s.answer ≡ Some a → GivesOwn catalog events c body s a → AnswersAreOf catalog (WasRead catalog events c) events id s a
+  shows_own : (a : Answer) → s.answer ≡ Some a → GivesOwn under events c body s a → AnswersAreOf catalog (WasRead catalog events c) events id s a
   shows_own (answer.Rows rows) is (t, select, images, reads, found, observed, own) = (
     t,
     select,
@@ -79,7 +86,7 @@ module _ (catalog : List Table) (events : List Event) (c : ℕ) (id : TxId) (cli
     reads,
     found,
     observed,
-    each_any (λ (r : Image). HasBefore catalog events c body s r.key (Some r.columns)) (λ (r : Image). HasRow catalog (WasRead catalog events c) events id s r.key (Some r.columns)) images (λ r h. row_own r.key (Some r.columns) h) own,
+    each_any (λ (r : Image). HasBefore under events c body s r.key (Some r.columns)) (λ (r : Image). HasRow catalog (WasRead catalog events c) events id s r.key (Some r.columns)) images (λ r h. row_own r.key (Some r.columns) h) own,
   )
   shows_own (answer.Duplicate key) is h = (h.0, row_own key (Some h.0) h.1)
   shows_own a is h = tt

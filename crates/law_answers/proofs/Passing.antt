@@ -75,6 +75,7 @@ rises_one c n ss (event.Call d store q how reply (Some a)) r all = by (d == c)
 rises_one c n ss (event.Stop d) r all = (r, below_more n ss all)
 rises_one c n ss (event.Clock moment) r all = (r, below_more n ss all)
 rises_one c n ss (event.Idle d) r all = (r, below_more n ss all)
+rises_one c n ss (event.Alter table column kind altered) r all = (r, below_more n ss all)
 rises_one c n ss (event.Land number store q how reply) r all = (r, below_more n ss all)
 
 rises_all : (c n : ℕ) (es : List Event) (ss : List Executed) → Rises ss → AreBelow n ss → Rises (fold (statements_after c) ss (enumerate_from n es))
@@ -130,6 +131,7 @@ reached_one c n ss (event.Call d store q how reply (Some a)) all = by (d == c)
 reached_one c n ss (event.Stop d) all = reached_more n ss all
 reached_one c n ss (event.Clock moment) all = reached_more n ss all
 reached_one c n ss (event.Idle d) all = reached_more n ss all
+reached_one c n ss (event.Alter table column kind altered) all = reached_more n ss all
 reached_one c n ss (event.Land number store q how r) all = reached_more n ss all
 
 reached_all : (c n : ℕ) (es : List Event) (ss : List Executed) → ReachBelow n ss → ReachBelow (n + length es) (fold (statements_after c) ss (enumerate_from n es))

@@ -11,7 +11,9 @@ use Rattle.sdb_model.specs.declared.answer.Answer.TheVariants as answer
 use Rattle.sdb_model.specs.Calls.{StoreCall, calls_of, clock_at, calls_by, end_of, is_stored_reply}
 use Rattle.law_clients.proofs.Public.{access_table, asked_at, each_more, ended as read_ended, ended_is, found_itself, given_finishes, other_no_commit, own_table}
 use Rattle.sdb_model.specs.Access.{in_access}
-use Rattle.sdb_model.specs.Causes.{ConflictsAtCommit, HasReply, IsBadRecord, IsCaused, IsCommitOf, IsRejected, MayPassMost, before, is_open, is_open_after, records_found, removes}
+use Rattle.sdb_model.specs.Catalogs.{catalog_after}
+use Rattle.sdb_model.specs.Causes.{ConflictsAtCommit, HasReply, IsBadRecord, IsCaused, IsCommitOf, IsRejected, MayPassMost, before, records_found, removes}
+use Rattle.sdb_model.specs.Follows.{is_open, is_open_after}
 use Rattle.sdb_model.specs.declared.statement.Statement.TheVariants as statement
 use Rattle.sdb_model.specs.Exec.{find_table, table_of}
 use Rattle.sdb_sqltext.proofs.Public.{vacuum_read}
@@ -37,7 +39,7 @@ use Rattle.law_clients.specs.History.{executed_with_answer, waiting_of}
 use Rattle.law_clients.specs.System.{ClientCall, call_event}
 use Rattle.sdb_client.specs.Step.{answer_of_outcome, CommitEnds, CommitGoesOn, CommitGoesTo, Fails, HasFaulted, IsBusy, IsCommitAt, IsMalformed, IsReadAt, IsVacuumAt, OutOfMemory, ReadConflicts, ReadEnds, ReadFails, ReadGoesOn, Receives, Step, VacuumEnds, VacuumGoesOn}
 use Rattle.law_answers.specs.Commits.{EndsBy, ObservesBad, StageByCalls}
-use Rattle.law_answers.specs.Invariant.{IsAnswered, IsCommitting, IsDoing, CauseInvariant, IsReadSetOf, IsReading, IsInVacuum, IsWaiting, Knows, DoingByHistory, ClientByHistory, begun_in, open_after}
+use Rattle.law_answers.specs.Invariant.{IsAnswered, IsCommitting, IsCurrent, IsDoing, CauseInvariant, IsReadSetOf, IsReading, IsInVacuum, IsWaiting, Knows, DoingByHistory, ClientByHistory, begun_in, open_after}
 use Rattle.law_answers.specs.Unfit.{IsFitOrReadTxn, SeesFitOrRead, SeesFitOrReadIn, AreStoredReplies}
 use Rattle.law_answers.specs.Conflicts.{ChecksBy, ConflictBy}
 use Rattle.law_answers.specs.Counts.{CommitCounted, CommitIsCounted, DoingCounted, IsCountedBy, ReadByTxn, ReadByDoing, ReadItemsAre, OpenCounted, ReadCounted, VacuumIsCounted, WaitCounted, read_items_since}
@@ -72,7 +74,7 @@ use Rattle.law_answers.proofs.Stages.{IsOfData, stands_on, starved_stands}
 use Rattle.law_answers.specs.Rolled.{DoingRolls, ReadRolls, RolledBut, VacuumRolls, WaitRolls}
 use Rattle.law_answers.proofs.Rolled.{outcome_rows, reads_so_far, rolls_end, rolls_on, sweeps_so_far}
 use Rattle.law_answers.proofs.RolledSteps.{SweepsTo, read_rolls, sweep_rolls}
-use Rattle.law_answers.specs.Views.{IsViewOf, SeesOwn, SeesOwnIn, ViewBy}
+use Rattle.law_answers.specs.Views.{GivesOwn, IsViewOf, SeesOwn, SeesOwnIn, ViewBy}
 use Rattle.law_answers.proofs.OwnRowsAnswered.{ShowsNext, next_same, showing_stays, shows_end, shows_further}
 use Rattle.law_answers.proofs.OwnRowsTurn.{read_next}
 use Rattle.law_answers.proofs.Takings.{left_id, left_idle, left_reads, middle_ends}
@@ -82,9 +84,9 @@ use Rattle.sdb_model.specs.Tables.{is_data}
 
 ---- the call
 
-module _ (catalog : List Table) (events : List Event) (states : ℕ → ClientState) (y : ClientCall) (ex : CauseInvariant catalog events y.now states) (called : IsCalled catalog states y) (about : IsOfTables catalog (states y.client).client)
-    (apart : (k : Key) → is_some (find_table catalog k.table) ≡ true → is_data k ≡ true)
-    (sound : (states y.client).client.vacuum ≡ None → (t : TxnAt) (a : Access) (x : ReadAt) → (states y.client).client.txn ≡ Some t → t.doing ≡ doing.Read a x → IsTold t.seen × WereRead t.seen.read_set t.seen.writes) (is_fine : is_catalog catalog ≡ true) (stored : is_stored_reply y.reply ≡ true) where
+module _ (catalog tables : List Table) (events : List Event) (current : tables ≡ catalog_after catalog events) (states : ℕ → ClientState) (y : ClientCall) (ex : CauseInvariant catalog events y.now states) (called : IsCalled tables states y) (about : IsOfTables tables (states y.client).client)
+    (apart : (k : Key) → is_some (find_table tables k.table) ≡ true → is_data k ≡ true)
+    (sound : (states y.client).client.vacuum ≡ None → (t : TxnAt) (a : Access) (x : ReadAt) → (states y.client).client.txn ≡ Some t → t.doing ≡ doing.Read a x → IsTold t.seen × WereRead t.seen.read_set t.seen.writes) (is_fine : is_catalog tables ≡ true) (stored : is_stored_reply y.reply ≡ true) where
   abbrev c : ℕ
   c = y.client
 
@@ -99,7 +101,7 @@ module _ (catalog : List Table) (events : List Event) (states : ℕ → ClientSt
   E result = events ++ call_event y result ∷ []
 
   abbrev So : Option Answer → Client → Type 0
-  So result d = Knows catalog (E result) c d
+  So result d = (k : Knows catalog (E result) c d) × IfSome d.txn (λ t. k.under ≡ tables)
 
   abbrev made : StoreCall
   made = made_at events y.store y.request y.how y.reply
@@ -120,7 +122,7 @@ module _ (catalog : List Table) (events : List Event) (states : ℕ → ClientSt
   abbrev so_noted : List ReadItem
   so_noted = read_items_since events c h.begun k.entries
 
-  data_table : (t : TableName) → is_some (find_table catalog t) ≡ true → IsDataTable t
+  data_table : (t : TableName) → is_some (find_table tables t) ≡ true → IsDataTable t
   data_table t listed = apart (record { table = t; partition = []; clustering = [] }) listed
 
   -- each call so far shows records as they are held
@@ -135,6 +137,9 @@ module _ (catalog : List Table) (events : List Event) (states : ℕ → ClientSt
 
     waits : IsWaiting catalog events c (is_some h.vacuum) w
     waits = subst (λ (o : Option Executed). IfSome o (IsWaiting catalog events c (is_some h.vacuum))) waiting k.waits
+
+    asked_so : catalog_after catalog (before w events) ≡ k.under
+    asked_so = subst (λ (o : Option Executed). IfSome o (λ x. catalog_after catalog (before x events) ≡ k.under)) waiting k.asked
 
     said_told : statements_by c events ≡ k.entries ++ w ∷ []
     said_told = k.same ∙ ap (λ o. k.entries ++ waiting_of o) waiting
@@ -185,56 +190,70 @@ module _ (catalog : List Table) (events : List Event) (states : ℕ → ClientSt
     CountsThen b d = (reads_commit w.text ≡ true → CommitIsCounted so_noted so_id (Some b) (ms ++ made ∷ [])) × ReadByTxn (read_items_since (E (Some b)) c d.begun (k.entries ++ done b ∷ [])) d.txn
 
     -- it is answered
-    answers : (b : Answer) (d : Client) → (is_conflict (Some b) ≡ false → IsCaused catalog (E (Some b)) c (done b) b) → ((key : Key) (found : Option Record) → Some b ≡ Some (answer.Conflict key found) → IsChangedIn (E (Some b)) c (k.entries ++ done b ∷ []) (done b) key found) → d.number ≡ h.number → d.begun ≡ h.begun → ClientByHistory (E (Some b)) c d.begun (k.entries ++ done b ∷ []) None d.plan d.txn d.vacuum → CountsThen b d → IfSome d.txn (IsFilled (E (Some b)) c (rest_of (from_begin d.begun (k.entries ++ done b ∷ [])))) → IfSome d.txn (IsFitOrReadTxn catalog (E (Some b)) c (rest_of (from_begin d.begun (k.entries ++ done b ∷ [])))) → RollsThen b → ShowsNext catalog (E (Some b)) c k.entries (done b) b d → So (Some b) d
-    answers b d caused moves number begun agrees counts filled fits rolls shows = record {
-      entries = k.entries ++ done b ∷ [];
-      waiting = None;
-      same = said_done b ∙ sym (append-nil (k.entries ++ done b ∷ []));
-      answered = each_more (IsAnswered catalog (E (Some b)) c) k.entries (done b) (answered_stay catalog c events (call_event y (Some b)) k.entries (inr (inr (k.entries, w, done b, said_told, waits.unanswered, said_done b))) k.answered) (record {
-        given = b;
-        is = refl;
-        accepted = within_more w.accepted events (call_event y (Some b)) waits.accepted;
-        answered = last (long (Some b));
-        caused = caused;
-        rejected = λ a t. absurd (waits.stays a (subst (λ es. IsRejected catalog es c w.text a) (before_same w events (call_event y (Some b)) waits.accepted) t));
-      });
-      waits = tt;
-      moved = moved_all catalog events (call_event y (Some b)) c k.entries (done b) k.answered k.moved moves;
-      number = number ∙ k.number;
-      begun = begun ∙ begun_done b;
-      small = subst (λ n. n < 2 ^ 64) (sym begun) k.small;
-      agrees = agrees;
-      counted = counts_end catalog c events (call_event y (Some b)) k.entries k.waiting h k.answered k.counted (done b) d (ms ++ made ∷ []) k.begun (calls_done b) counted_then (λ t. clash (sym t ∙ begins_none b)) (λ t opened. counts.0 t) counts.1;
-      filled = filled;
-      fits = fits;
-      stored = all_stored (Some b);
-      rolled = rolls_end catalog c events (call_event y (Some b)) k.entries k.waiting h k.answered k.rolled (done b) d (ms ++ made ∷ []) (calls_done b) (λ read. rolls read);
-      shows = shows_end catalog c events (call_event y (Some b)) k.entries k.answered h k.shows k.counted.paired (done b) b d refl shows;
-    }
+    answers : (b : Answer) (d : Client) → (is_conflict (Some b) ≡ false → IsCaused catalog (E (Some b)) c (done b) b) → ((key : Key) (found : Option Record) → Some b ≡ Some (answer.Conflict key found) → IsChangedIn (E (Some b)) c (k.entries ++ done b ∷ []) (done b) key found) → d.number ≡ h.number → d.begun ≡ h.begun → ClientByHistory (E (Some b)) c d.begun (k.entries ++ done b ∷ []) None d.plan d.txn d.vacuum → CountsThen b d → IfSome d.txn (IsFilled (E (Some b)) c (rest_of (from_begin d.begun (k.entries ++ done b ∷ [])))) → IfSome d.txn (IsFitOrReadTxn tables (E (Some b)) c (rest_of (from_begin d.begun (k.entries ++ done b ∷ [])))) → RollsThen b → ShowsNext catalog tables (E (Some b)) c k.entries (done b) b d → So (Some b) d
+    answers b d caused moves number begun agrees counts filled fits rolls shows = (
+      record {
+        entries = k.entries ++ done b ∷ [];
+        waiting = None;
+        under = tables;
+        asked = tt;
+        same = said_done b ∙ sym (append-nil (k.entries ++ done b ∷ []));
+        answered = each_more (IsAnswered catalog (E (Some b)) c) k.entries (done b) (answered_stay catalog c events (call_event y (Some b)) k.entries (inr (inr (k.entries, w, done b, said_told, waits.unanswered, said_done b))) k.answered) (record {
+          given = b;
+          is = refl;
+          accepted = within_more w.accepted events (call_event y (Some b)) waits.accepted;
+          answered = last (long (Some b));
+          caused = caused;
+          rejected = λ a t. absurd (waits.stays a (subst (λ es. IsRejected catalog es c w.text a) (before_same w events (call_event y (Some b)) waits.accepted) t));
+        });
+        waits = tt;
+        moved = moved_all catalog events (call_event y (Some b)) c k.entries (done b) k.answered k.moved moves;
+        number = number ∙ k.number;
+        begun = begun ∙ begun_done b;
+        small = subst (λ n. n < 2 ^ 64) (sym begun) k.small;
+        agrees = agrees;
+        counted = counts_end catalog c events (call_event y (Some b)) k.entries k.waiting h k.answered k.counted (done b) d (ms ++ made ∷ []) k.begun (calls_done b) counted_then (λ t. clash (sym t ∙ begins_none b)) (λ t opened. counts.0 t) counts.1;
+        filled = filled;
+        fits = fits;
+        stored = all_stored (Some b);
+        rolled = rolls_end catalog c events (call_event y (Some b)) k.entries k.waiting h k.answered k.rolled (done b) d (ms ++ made ∷ []) (calls_done b) (λ read. rolls read);
+        shows = shows_end catalog k.under c events (call_event y (Some b)) k.entries k.answered h k.shows k.counted.paired tables (done b) b d refl shows;
+      },
+      runs d.txn,
+    )
       where
         last : length (E (Some b)) ≡ 1 + length events → 1 + length events ≤ length (E (Some b))
         last e = omega arith
 
+        runs : (o : Option TxnAt) → IfSome o (λ t. tables ≡ tables)
+        runs None = tt
+        runs (Some t) = refl
+
     -- it goes on
-    goes_on : (d : Client) → d.number ≡ h.number → d.begun ≡ h.begun → is_some d.vacuum ≡ is_some h.vacuum → ClientByHistory (E None) c d.begun k.entries (Some w) d.plan d.txn d.vacuum → ReadByTxn so_noted d.txn × WaitCounted catalog w.text so_id so_noted (ms ++ made ∷ []) d.vacuum d.txn → IfSome d.txn (IsFilled (E None) c (rest_of (from_begin d.begun k.entries))) → IfSome d.txn (IsFitOrReadTxn catalog (E None) c (rest_of (from_begin d.begun k.entries))) → WaitRolls (E None) (reads_vacuum w.text) (ms ++ made ∷ []) d.vacuum d.txn → (ViewBy catalog events c k.entries h → IfSome d.txn (IsViewOf catalog (E None) c (rest_of (from_begin d.begun k.entries)))) → So None d
-    goes_on d number begun vacuums agrees counts filled fits rolls sees = record {
-      entries = k.entries;
-      waiting = Some w;
-      same = silent_executed c events y.store y.request y.how y.reply ∙ said_told;
-      answered = answered_stay catalog c events (call_event y None) k.entries (inl (silent_executed c events y.store y.request y.how y.reply)) k.answered;
-      waits = subst (λ b. IsWaiting catalog (E None) c b w) (sym vacuums) (waiting_stays catalog c events (call_event y None) (is_some h.vacuum) w waits);
-      moved = moved_still catalog events (call_event y None) c k.entries k.entries k.answered k.moved;
-      number = number ∙ k.number;
-      begun = begun ∙ k.begun;
-      small = subst (λ n. n < 2 ^ 64) (sym begun) k.small;
-      agrees = agrees;
-      counted = counts_on catalog c events (call_event y None) k.entries k.waiting h k.answered k.counted w d (ms ++ made ∷ []) begun calls_on counts.0 counts.1;
-      filled = filled;
-      fits = fits;
-      stored = all_stored None;
-      rolled = rolls_on catalog c events (call_event y None) k.entries k.waiting h k.answered k.rolled w d (ms ++ made ∷ []) calls_on rolls;
-      shows = shows_further catalog c events (call_event y None) k.entries k.answered h k.shows d sees;
-    }
+    goes_on : (under : List Table) (d : Client) → catalog_after catalog (before w events) ≡ under → IfSome d.txn (λ t. under ≡ tables) → d.number ≡ h.number → d.begun ≡ h.begun → is_some d.vacuum ≡ is_some h.vacuum → ClientByHistory (E None) c d.begun k.entries (Some w) d.plan d.txn d.vacuum → ReadByTxn so_noted d.txn × WaitCounted catalog w.text so_id so_noted (ms ++ made ∷ []) d.vacuum d.txn → IfSome d.txn (IsFilled (E None) c (rest_of (from_begin d.begun k.entries))) → IfSome d.txn (IsFitOrReadTxn under (E None) c (rest_of (from_begin d.begun k.entries))) → WaitRolls (E None) (reads_vacuum w.text) (ms ++ made ∷ []) d.vacuum d.txn → (ViewBy catalog k.under events c k.entries h → IfSome d.txn (IsViewOf under (E None) c (rest_of (from_begin d.begun k.entries)))) → So None d
+    goes_on under d asked runs number begun vacuums agrees counts filled fits rolls sees = (
+      record {
+        entries = k.entries;
+        waiting = Some w;
+        under = under;
+        asked = ap (catalog_after catalog) (before_same w events (call_event y None) waits.accepted) ∙ asked;
+        same = silent_executed c events y.store y.request y.how y.reply ∙ said_told;
+        answered = answered_stay catalog c events (call_event y None) k.entries (inl (silent_executed c events y.store y.request y.how y.reply)) k.answered;
+        waits = subst (λ b. IsWaiting catalog (E None) c b w) (sym vacuums) (waiting_stays catalog c events (call_event y None) (is_some h.vacuum) w waits);
+        moved = moved_still catalog events (call_event y None) c k.entries k.entries k.answered k.moved;
+        number = number ∙ k.number;
+        begun = begun ∙ k.begun;
+        small = subst (λ n. n < 2 ^ 64) (sym begun) k.small;
+        agrees = agrees;
+        counted = counts_on catalog c events (call_event y None) k.entries k.waiting h k.answered k.counted w d (ms ++ made ∷ []) begun calls_on counts.0 counts.1;
+        filled = filled;
+        fits = fits;
+        stored = all_stored None;
+        rolled = rolls_on catalog c events (call_event y None) k.entries k.waiting h k.answered k.rolled w d (ms ++ made ∷ []) calls_on rolls;
+        shows = shows_further catalog k.under c events (call_event y None) k.entries k.answered h k.shows under d sees;
+      },
+      runs,
+    )
 
     calls_stored : (b : Answer) → AreStoredReplies (calls_of (E (Some b)) c (done b))
     calls_stored b = each_kept (λ (m : StoreCall). is_stored_reply m.reply ≡ true) (λ m. nat_lt (done b).accepted m.at && nat_le m.at (end_of (E (Some b)) (done b))) (calls_by (E (Some b)) c) (all_stored (Some b))
@@ -250,6 +269,22 @@ module _ (catalog : List Table) (events : List Event) (states : ℕ → ClientSt
     module _ (t : TxnAt) (some : h.txn ≡ Some t) (free : h.vacuum ≡ None) where
       stands_open : DoingByHistory events c h.begun k.entries k.waiting h.plan (Some t)
       stands_open = subst (DoingByHistory events c h.begun k.entries k.waiting h.plan) some (subst (ClientByHistory events c h.begun k.entries k.waiting h.plan h.txn) free k.agrees)
+
+      -- it runs under the tables of the moment, with which its statement was accepted
+      runs_under : k.under ≡ tables
+      runs_under = subst (λ (o : Option TxnAt). IsCurrent catalog events o k.under) some (ex.current c called.waiting.goes_on) ∙ sym current
+
+      asked_open : catalog_after catalog (before w events) ≡ tables
+      asked_open = asked_so ∙ runs_under
+
+      asked_done : (b : Answer) → catalog_after catalog (before (done b) (E (Some b))) ≡ tables
+      asked_done b = ap (catalog_after catalog) (before_same w events (call_event y (Some b)) waits.accepted) ∙ asked_open
+
+      fits_open : IsFitOrReadTxn tables events c (rest_of (from_begin h.begun k.entries)) t
+      fits_open = subst (λ (ts : List Table). IsFitOrReadTxn ts events c (rest_of (from_begin h.begun k.entries)) t) runs_under (subst (λ (o : Option TxnAt). IfSome o (IsFitOrReadTxn k.under events c (rest_of (from_begin h.begun k.entries)))) some k.fits)
+
+      view_open : ViewBy catalog k.under events c k.entries h → IsViewOf tables events c (rest_of (from_begin h.begun k.entries)) t
+      view_open z = subst (λ (ts : List Table). IsViewOf ts events c (rest_of (from_begin h.begun k.entries)) t) runs_under (subst (λ (o : Option TxnAt). IfSome o (IsViewOf k.under events c (rest_of (from_begin h.begun k.entries)))) some z.sees_own)
 
       -- it runs no VACUUM
       stands_free : (result : Option Answer) (n : ℕ) (answered : List Executed) (v : Option Executed) (p : Option Planned) (o : Option TxnAt) → DoingByHistory (E result) c n answered v p o → ClientByHistory (E result) c n answered v p o h.vacuum
@@ -300,18 +335,18 @@ module _ (catalog : List Table) (events : List Event) (states : ℕ → ClientSt
 
       ---- a read
 
-      module _ (p : Planned) (a : Access) (x : ReadAt) (plan : h.plan ≡ Some p) (reads : t.doing ≡ doing.Read a x) (asked : IsAskedBy catalog p a x) (is : IsReading events c w p x) where
-        read_in : IsReadIn catalog p a x
+      module _ (p : Planned) (a : Access) (x : ReadAt) (plan : h.plan ≡ Some p) (reads : t.doing ≡ doing.Read a x) (asked : IsAskedBy tables p a x) (is : IsReading events c w p x) where
+        read_in : IsReadIn tables p a x
         read_in =
-            let d : IsDoingIn catalog t.seen t.doing h.plan = subst (λ (o : Option TxnAt). IfSome o (λ u. IsDoingIn catalog u.seen u.doing h.plan)) some about.txn in
-            (subst (IsDoingIn catalog t.seen (doing.Read a x)) plan (subst (λ z. IsDoingIn catalog t.seen z h.plan) reads d)).1
+            let d : IsDoingIn tables t.seen t.doing h.plan = subst (λ (o : Option TxnAt). IfSome o (λ u. IsDoingIn tables u.seen u.doing h.plan)) some about.txn in
+            (subst (IsDoingIn tables t.seen (doing.Read a x)) plan (subst (λ z. IsDoingIn tables t.seen z h.plan) reads d)).1
 
         own : IsDataTable (access_table a)
         own = subst IsDataTable (sym (ap access_table asked.access ∙ own_table p.table p.statement)) (data_table p.table.name read_in.table)
 
-        leaves : (s : ReadStage) → IsStageIn catalog s → LeavesData (E None) ms made older y.now (clock_now None) s
+        leaves : (s : ReadStage) → IsStageIn tables s → LeavesData (E None) ms made older y.now (clock_now None) s
         leaves Asking i = tt
-        leaves (Resolving images rec meta q left) i = each_any (λ (r : Record). IsIn catalog r.key) (λ (r : Record). IsDataTable r.key.table) left (λ r z. apart r.key z) i.2
+        leaves (Resolving images rec meta q left) i = each_any (λ (r : Record). IsIn tables r.key) (λ (r : Record). IsDataTable r.key.table) left (λ r z. apart r.key z) i.2
         leaves (Ended s) i = tt
 
         pends : read_pending_at (request_of a) x.stage ≡ Some made.request
@@ -333,23 +368,21 @@ module _ (catalog : List Table) (events : List Event) (states : ℕ → ClientSt
         body_answered = since_all (IsAnswered catalog events c) h.begun k.entries stands_open.1.begin stands_open.1.body k.answered stands_open.1.since
 
         -- what it sees fits, or a statement before read it
-        fit_reading : (result : Option Answer) → SeesFitOrRead catalog (E result) c (rest_of (from_begin h.begun k.entries)) t.seen
-        fit_reading result =
-            subst (SeesFitOrReadIn catalog (E result) c (rest_of (from_begin h.begun k.entries)) t.seen) reads
-            (subst (λ (o : Option TxnAt). IfSome o (IsFitOrReadTxn catalog (E result) c (rest_of (from_begin h.begun k.entries)))) some (fits_stay catalog events (call_event y result) c h.begun k.entries h.txn k.answered k.fits))
+        fit_reading : (result : Option Answer) → SeesFitOrRead tables (E result) c (rest_of (from_begin h.begun k.entries)) t.seen
+        fit_reading result = subst (SeesFitOrReadIn tables (E result) c (rest_of (from_begin h.begun k.entries)) t.seen) reads (fits_stay catalog tables events (call_event y result) c h.begun k.entries (Some t) k.answered fits_open)
 
-        fit_now : (result : Option Answer) → SeesFitOrRead catalog (E result) c stands_open.1.body t.seen
-        fit_now result = subst (λ r. SeesFitOrRead catalog (E result) c (rest_of r) t.seen) stands_open.1.since (fit_reading result)
+        fit_now : (result : Option Answer) → SeesFitOrRead tables (E result) c stands_open.1.body t.seen
+        fit_now result = subst (λ r. SeesFitOrRead tables (E result) c (rest_of r) t.seen) stands_open.1.since (fit_reading result)
 
         -- what it sees it has
-        sees_reading : (result : Option Answer) → ViewBy catalog events c k.entries h → SeesOwn catalog (E result) c (rest_of (from_begin h.begun k.entries)) t.seen
-        sees_reading result z = subst (SeesOwnIn catalog (E result) c (rest_of (from_begin h.begun k.entries)) t.seen) reads (showing_stays catalog events (call_event y result) c h.begun k.entries (Some t) k.answered (subst (λ (o : Option TxnAt). IfSome o (IsViewOf catalog events c (rest_of (from_begin h.begun k.entries)))) some z.sees_own))
+        sees_reading : (result : Option Answer) → ViewBy catalog k.under events c k.entries h → SeesOwn tables (E result) c (rest_of (from_begin h.begun k.entries)) t.seen
+        sees_reading result z = subst (SeesOwnIn tables (E result) c (rest_of (from_begin h.begun k.entries)) t.seen) reads (showing_stays catalog tables events (call_event y result) c h.begun k.entries (Some t) k.answered (view_open z))
 
-        sees_now : SeesOwn catalog events c stands_open.1.body t.seen
-        sees_now = subst (λ r. SeesOwn catalog events c (rest_of r) t.seen) stands_open.1.since (subst (SeesOwnIn catalog events c (rest_of (from_begin h.begun k.entries)) t.seen) reads (subst (λ (o : Option TxnAt). IfSome o (IsViewOf catalog events c (rest_of (from_begin h.begun k.entries)))) some k.shows.sees_own))
+        sees_now : SeesOwn tables events c stands_open.1.body t.seen
+        sees_now = subst (λ r. SeesOwn tables events c (rest_of r) t.seen) stands_open.1.since (subst (SeesOwnIn tables events c (rest_of (from_begin h.begun k.entries)) t.seen) reads (view_open k.shows))
 
-        listed : find_table catalog p.table.name ≡ Some p.table
-        listed = found_itself catalog (table_of p.statement) p.table asked.named
+        listed : find_table tables p.table.name ≡ Some p.table
+        listed = found_itself tables (table_of p.statement) p.table asked.named
 
         of_table : access_table a ≡ p.table.name
         of_table = ap access_table asked.access ∙ own_table p.table p.statement
@@ -387,12 +420,12 @@ module _ (catalog : List Table) (events : List Event) (states : ℕ → ClientSt
             (held b (idle t) m is.inner.commit refl refl (noted_more catalog events (call_event y (Some b)) c h.begun k.entries t stands_open.1 k.answered (done b) t.seen t.seen refl refl noting_now))
             (no_fit b, subst (λ ns. ReadItemsAre ns t.seen.reads t.seen.scans) (sym (notes_as_before b unfinished)) read_so)
             (filled_idle (E (Some b)) c h.begun k.entries (done b) stands_open.1.begin stands_open.1.body (idle t) stands_open.1.since refl (filled_more catalog events (call_event y (Some b)) c stands_open.1.body (done b) t.seen body_answered filled_now))
-            (fits_idle catalog (E (Some b)) c h.begun k.entries (done b) stands_open.1.begin stands_open.1.body (idle t) stands_open.1.since refl (fits_more catalog (E (Some b)) c stands_open.1.body (done b) t.seen (fit_now (Some b)))) (λ z. clash (sym z ∙ unfinished))
-            (next_same catalog c events (call_event y (Some b)) k.entries k.answered h.begun stands_open.1.begin stands_open.1.body stands_open.1.since t.seen sees_now (done b) b (idle t) refl nothing refl refl)
+            (fits_idle tables (E (Some b)) c h.begun k.entries (done b) stands_open.1.begin stands_open.1.body (idle t) stands_open.1.since refl (fits_more tables (E (Some b)) c stands_open.1.body (done b) t.seen (fit_now (Some b)))) (λ z. clash (sym z ∙ unfinished))
+            (next_same catalog tables c events (call_event y (Some b)) k.entries k.answered h.begun stands_open.1.begin stands_open.1.body stands_open.1.since t.seen sees_now (done b) b (idle t) refl nothing refl refl)
 
         reads_further : (s : ReadStage) → ReadsBy (ms ++ made ∷ []) s → StageObserves x.request (ms ++ made ∷ []) s → ReadCounted (ms ++ made ∷ []) s → ReadRolls (E None) (reads_vacuum w.text) (ms ++ made ∷ []) s → So None (record h { txn = Some (record t { doing = doing.Read a (record x { stage = s }) }) })
         reads_further s i j n r =
-            goes_on (record h { txn = Some (record t { doing = doing.Read a (record x { stage = s }) }) }) refl refl refl
+            goes_on tables (record h { txn = Some (record t { doing = doing.Read a (record x { stage = s }) }) }) asked_open refl refl refl refl
             (further (record t { doing = doing.Read a (record x { stage = s }) }) h.plan refl
             (subst (λ (o : Option Planned). IsDoing (E None) c (record t { doing = doing.Read a (record x { stage = s }) }) o (Some w) (doing.Read a (record x { stage = s }))) (sym plan)
             (record { text = is.text; inner = is.inner; stage = subst (λ cs. ReadsBy cs s) (sym calls_on) i; shows = subst (λ cs. StageObserves x.request cs s) (sym calls_on) j }))
@@ -462,36 +495,37 @@ module _ (catalog : List Table) (events : List Event) (states : ℕ → ClientSt
             (filled_found catalog events (call_event y (Some b)) c stands_open.1.body (records_found (ms ++ made ∷ [])) (records_found (calls_of (E (Some b)) c (done b))) (with_rows_read t a images).seen body_answered (found_done b) (filled_with images e)) many)
 
         -- what it sees then fits, or a statement read it
-        fit_then : (images : List Record) → read_step x.stage y.now y.reply ≡ Ended (step.Images images) → SeesFitOrRead catalog (E (Some (given_then images))) c (stands_open.1.body ++ done (given_then images) ∷ []) (seen_then images).seen
+        fit_then : (images : List Record) → read_step x.stage y.now y.reply ≡ Ended (step.Images images) → SeesFitOrRead tables (E (Some (given_then images))) c (stands_open.1.body ++ done (given_then images) ∷ []) (seen_then images).seen
         fit_then images e =
-            sees_read catalog p a listed of_table (ms ++ made ∷ []) t images (was_read images e) own (E (Some (given_then images))) c stands_open.1.body (done (given_then images)) (calls_done (given_then images)) (finished images e)
+            sees_read tables p a listed of_table (ms ++ made ∷ []) t images (was_read images e) own (E (Some (given_then images))) c stands_open.1.body (done (given_then images)) (calls_done (given_then images)) (finished images e)
             (fit_now (Some (given_then images)))
 
         -- a row that doesn't fit its table was read by it or before
         misfit_caused : (images : List Record) → read_step x.stage y.now y.reply ≡ Ended (step.Images images) → (key : Key) → first_unfit p.table (overlay a (seen_then images).seen) ≡ Some key → IsBadRecord catalog (E (Some (given_then images))) c (done (given_then images)) key
         misfit_caused images e key f =
-            let m = was_misfit catalog p a listed of_table (E (Some (given_then images))) c (stands_open.1.body ++ done (given_then images) ∷ []) (seen_then images).seen key (fit_then images e) f in
-            inr (meets_now catalog c h.begun (E (Some (given_then images))) k.entries stands_open.1.begin (done (given_then images)) stands_open.1.body p.statement p.table key k.small (said_done (given_then images)) stands_open.1.since stands_open.1.goes_on is.text asked.named
+            let m = was_misfit tables p a listed of_table (E (Some (given_then images))) c (stands_open.1.body ++ done (given_then images) ∷ []) (seen_then images).seen key (fit_then images e) f in
+            inr (meets_now catalog tables c h.begun (E (Some (given_then images))) k.entries stands_open.1.begin (done (given_then images)) stands_open.1.body p.statement p.table key (asked_done (given_then images)) k.small (said_done (given_then images)) stands_open.1.since stands_open.1.goes_on is.text asked.named
             (subst (λ (z : Access). in_access z key ≡ true) asked.access m.0) m.1)
 
         -- what it shows, and what its transaction then sees
-        shows_then : (images : List Record) → read_step x.stage y.now y.reply ≡ Ended (step.Images images) → ShowsNext catalog (E (Some (given_then images))) c k.entries (done (given_then images)) (given_then images) (holding h (left_then images))
+        shows_then : (images : List Record) → read_step x.stage y.now y.reply ≡ Ended (step.Images images) → ShowsNext catalog tables (E (Some (given_then images))) c k.entries (done (given_then images)) (given_then images) (holding h (left_then images))
         shows_then images e =
-            read_next catalog c events (call_event y (Some (given_then images))) k.entries k.answered h.begun stands_open.1.begin stands_open.1.body stands_open.1.since k.begun t sees_now (sound free t a x some reads).1 (done (given_then images)) p a (ms ++ made ∷ []) images (calls_done (given_then images)) (was_read images e) is_fine is.text (waits.vacuum ∙ ap is_some free) asked.named asked.asked asked.access refl
-            (finished images e)
+            let next = read_next catalog tables c events (call_event y (Some (given_then images))) k.entries k.answered h.begun stands_open.1.begin stands_open.1.body stands_open.1.since k.begun t sees_now (sound free t a x some reads).1 (done (given_then images)) p a (ms ++ made ∷ []) images (calls_done (given_then images)) (was_read images e) is_fine is.text (waits.vacuum ∙ ap is_some free) asked.named asked.asked asked.access refl
+            (finished images e) in
+            (λ opened. subst (λ (ts : List Table). GivesOwn ts (E (Some (given_then images))) c (rest_of (from_begin (begun_in k.entries) k.entries)) (done (given_then images)) (given_then images)) (sym (asked_done (given_then images))) (next.0 opened), next.1)
 
         is_known : (images : List Record) → read_step x.stage y.now y.reply ≡ Ended (step.Images images) → So (Some (given_then images)) (holding h (left_then images))
         is_known images e =
             let v : TxnAt = seen_then images in
             let b : Answer = given_then images in
             let m = given_middle p (overlay a v.seen) v in
-            answers b (holding h (left_then images)) (given_caused catalog (E (Some b)) c (done b) p (overlay a v.seen) v is.text asked.named asked.asked (open_before b) (misfit_caused images e) (passes_then images e b)) (stays b m.agrees) refl refl
+            answers b (holding h (left_then images)) (given_caused catalog tables (E (Some b)) c (done b) p (overlay a v.seen) v (asked_done b) is.text asked.named asked.asked (open_before b) (misfit_caused images e) (passes_then images e b)) (stays b m.agrees) refl refl
             (held b (left_then images) m is.inner.commit (left_id v (gives p a v) ∙ reading_keeps_id t a images) (left_rests images) (noted_then images e))
             (no_fit b, told_noted images e)
             (filled_idle (E (Some b)) c h.begun k.entries (done b) stands_open.1.begin stands_open.1.body (left_then images) stands_open.1.since (left_rests images)
             (filled_given catalog events (call_event y (Some b)) c stands_open.1.body (done b) p (overlay a v.seen) v (records_found (ms ++ made ∷ [])) body_answered refl (finished images e) (found_done b) (filled_with images e)))
-            (fits_idle catalog (E (Some b)) c h.begun k.entries (done b) stands_open.1.begin stands_open.1.body (left_then images) stands_open.1.since (left_rests images)
-            (given_fits catalog p a listed of_table is_fine asked.named asked.asked asked.accepted asked.literals asked.access (E (Some b)) c (stands_open.1.body ++ done b ∷ []) v (fit_then images e)))
+            (fits_idle tables (E (Some b)) c h.begun k.entries (done b) stands_open.1.begin stands_open.1.body (left_then images) stands_open.1.since (left_rests images)
+            (given_fits tables p a listed of_table is_fine asked.named asked.asked asked.accepted asked.literals asked.access (E (Some b)) c (stands_open.1.body ++ done b ∷ []) v (fit_then images e)))
             (λ z. subst (ReadRolls (E (Some b)) (reads_vacuum w.text) (ms ++ made ∷ [])) e (rolled_read (Some b))) (shows_then images e)
 
         -- a key that was read differs
@@ -548,17 +582,17 @@ module _ (catalog : List Table) (events : List Event) (states : ℕ → ClientSt
       ---- a COMMIT
 
       module _ (j : CommitAt) (plan : h.plan ≡ None) (commits : t.doing ≡ doing.Commit j) (is : IsCommitting events c w t j) where
-        work_in : IsWorkIn catalog j.work
+        work_in : IsWorkIn tables j.work
         work_in =
-            let d : IsDoingIn catalog t.seen t.doing h.plan = subst (λ (o : Option TxnAt). IfSome o (λ u. IsDoingIn catalog u.seen u.doing h.plan)) some about.txn in
-            subst (λ z. IsDoingIn catalog t.seen z h.plan) commits d
+            let d : IsDoingIn tables t.seen t.doing h.plan = subst (λ (o : Option TxnAt). IfSome o (λ u. IsDoingIn tables u.seen u.doing h.plan)) some about.txn in
+            subst (λ z. IsDoingIn tables t.seen z h.plan) commits d
 
         of_data : IsOfData j.work
         of_data = record {
           small = subst (λ (z : TxId). z.0 < 2 ^ 128) (sym (is.same ∙ stands_open.1.id)) (id_fits c h.begun stands_open.1.client k.small);
           moment = is.moment;
-          writes = each_any (λ (z : Write). IsIn catalog z.key × IsRecordIn catalog z.base) (λ (z : Write). is_data z.key ≡ true) j.work.writes (λ z i. apart z.key i.0) work_in.writes;
-          reads = each_any (λ (z : Read). IsIn catalog z.key) (λ (z : Read). is_data z.key ≡ true) j.work.reads (λ z i. apart z.key i) work_in.reads;
+          writes = each_any (λ (z : Write). IsIn tables z.key × IsRecordIn tables z.base) (λ (z : Write). is_data z.key ≡ true) j.work.writes (λ z i. apart z.key i.0) work_in.writes;
+          reads = each_any (λ (z : Read). IsIn tables z.key) (λ (z : Read). is_data z.key ≡ true) j.work.reads (λ z i. apart z.key i) work_in.reads;
         }
 
         pends_commit : commit_pending j.work j.stage ≡ Some made.request
@@ -625,11 +659,11 @@ module _ (catalog : List Table) (events : List Event) (states : ℕ → ClientSt
         is_over a e =
             answers (answer_of_outcome a) (resting h) (end_caused a (subst (StageByCalls j.work (ms ++ made ∷ [])) e then_stands)) (ends_moved a e) refl refl (ended (answer_of_outcome a) (over_done (answer_of_outcome a)))
             (λ z. subst (λ (i : TxId). CommitIsCounted so_noted i (Some (answer_of_outcome a)) (ms ++ made ∷ [])) commit_so.1 (commit_over so_noted j.work (ms ++ made ∷ []) a (subst (CommitCounted so_noted j.work (ms ++ made ∷ [])) e counted_commit) (subst (StageByCalls j.work (ms ++ made ∷ [])) e then_stands)), tt) tt tt (λ z. clash (sym z ∙ outcome_rows j.work.id (ms ++ made ∷ []) a (subst (StageByCalls j.work (ms ++ made ∷ [])) e then_stands)))
-            ((λ was. outcome_tells catalog (E (Some (answer_of_outcome a))) c (rest_of (from_begin (begun_in k.entries) k.entries)) (done (answer_of_outcome a)) a), tt)
+            ((λ was. outcome_tells (catalog_after catalog (before (done (answer_of_outcome a)) (E (Some (answer_of_outcome a))))) (E (Some (answer_of_outcome a))) c (rest_of (from_begin (begun_in k.entries) k.entries)) (done (answer_of_outcome a)) a), tt)
 
         commits_on : (u : TxnAt) (m : CommitAt) → u.id ≡ t.id → u.doing ≡ doing.Commit m → m.work ≡ j.work → StageByCalls j.work (ms ++ made ∷ []) m.stage → ((ns : List ReadItem) → ChecksBy ns j.work (ms ++ made ∷ []) then_at → ChecksBy ns j.work (ms ++ made ∷ []) m.stage) → CommitCounted so_noted j.work (ms ++ made ∷ []) m.stage → So None (record h { txn = Some u })
         commits_on u m same does work agrees checked counts =
-            goes_on (record h { txn = Some u }) refl refl refl
+            goes_on tables (record h { txn = Some u }) asked_open refl refl refl refl
             (further u h.plan same
             (subst (IsDoing (E None) c u h.plan (Some w)) (sym does) (record {
               text = is.text;
@@ -648,7 +682,7 @@ module _ (catalog : List Table) (events : List Event) (states : ℕ → ClientSt
               waits_open (ms ++ made ∷ []) (Some u) (subst (DoingCounted w.text so_id so_noted (ms ++ made ∷ [])) (sym does)
                   (is.text, ap (λ (z : Work). z.id) work ∙ commit_so.1, subst (λ (z : Work). AllByRecursion IsWrite z.writes) (sym work) commit_so.2, subst (λ (z : Work). CommitCounted so_noted z (ms ++ made ∷ []) m.stage) (sym work) counts)),
             )
-            (subst (IsFilledIn (E None) c (rest_of (from_begin h.begun k.entries)) u.seen) (sym does) tt) (subst (SeesFitOrReadIn catalog (E None) c (rest_of (from_begin h.begun k.entries)) u.seen) (sym does) tt) (rolls_open (Some u) (subst (DoingRolls (E None) (reads_vacuum w.text) (ms ++ made ∷ [])) (sym does) tt)) (λ z. subst (SeesOwnIn catalog (E None) c (rest_of (from_begin h.begun k.entries)) u.seen) (sym does) tt)
+            (subst (IsFilledIn (E None) c (rest_of (from_begin h.begun k.entries)) u.seen) (sym does) tt) (subst (SeesFitOrReadIn tables (E None) c (rest_of (from_begin h.begun k.entries)) u.seen) (sym does) tt) (rolls_open (Some u) (subst (DoingRolls (E None) (reads_vacuum w.text) (ms ++ made ∷ [])) (sym does) tt)) (λ z. subst (SeesOwnIn tables (E None) c (rest_of (from_begin h.begun k.entries)) u.seen) (sym does) tt)
 
         by_stage : (m : Stage) → IsNext j.work j.stage y.reply m → StageByCalls j.work (ms ++ made ∷ []) m
         by_stage m z = next_by (StageByCalls j.work (ms ++ made ∷ [])) j.work j.stage y.reply m z then_stands (starved_stands j.work (ms ++ made ∷ []) then_at then_stands)
@@ -672,7 +706,7 @@ module _ (catalog : List Table) (events : List Event) (states : ℕ → ClientSt
       no_commit = other_no_commit w.text statement.Vacuum reads_it (λ e. cc)
 
       sweeps_data : SweepsData v.stage
-      sweeps_data = sweeps_of catalog apart v.stage (subst (λ (o : Option VacuumAt). IfSome o (IsVacuumIn catalog)) runs about.vacuum).0
+      sweeps_data = sweeps_of tables apart v.stage (subst (λ (o : Option VacuumAt). IfSome o (IsVacuumIn tables)) runs about.vacuum).0
 
       led : SweepLed (E None) ms made older y.now (clock_now None) (vacuum_step v y.now y.reply)
       led = step_led (E None) ms made older y.now (clock_now None) v.spans v.removed v.stage sweeps_data is.2.0 is.2.1 (subst (λ (o : Option VacuumAt). pending_by o h.txn ≡ Some y.request) runs called.waiting.pending) called.can
@@ -688,7 +722,7 @@ module _ (catalog : List Table) (events : List Event) (states : ℕ → ClientSt
 
       -- another call is pending
       sweeps_on : (left : VacuumAt) → VacuumBy (ms ++ made ∷ []) left → VacuumIsCounted catalog (ms ++ made ∷ []) left → VacuumRolls (E None) (reads_vacuum w.text) (ms ++ made ∷ []) left.stage → So None (record h { vacuum = Some left })
-      sweeps_on left by counts rolls = goes_on (record h { vacuum = Some left }) refl refl (sym (ap is_some runs)) (is.0, is.1, subst (λ cs. VacuumBy cs left) (sym calls_on) by) (k.counted.as_read, counts) (subst (λ (o : Option TxnAt). IfSome o (IsFilled (E None) c (rest_of (from_begin h.begun k.entries)))) (sym is.0) tt) (subst (λ (o : Option TxnAt). IfSome o (IsFitOrReadTxn catalog (E None) c (rest_of (from_begin h.begun k.entries)))) (sym is.0) tt) rolls (λ z. subst (λ (o : Option TxnAt). IfSome o (IsViewOf catalog (E None) c (rest_of (from_begin h.begun k.entries)))) (sym is.0) tt)
+      sweeps_on left by counts rolls = goes_on k.under (record h { vacuum = Some left }) asked_so (subst (λ (o : Option TxnAt). IfSome o (λ t. k.under ≡ tables)) (sym is.0) tt) refl refl (sym (ap is_some runs)) (is.0, is.1, subst (λ cs. VacuumBy cs left) (sym calls_on) by) (k.counted.as_read, counts) (subst (λ (o : Option TxnAt). IfSome o (IsFilled (E None) c (rest_of (from_begin h.begun k.entries)))) (sym is.0) tt) (subst (λ (o : Option TxnAt). IfSome o (IsFitOrReadTxn k.under (E None) c (rest_of (from_begin h.begun k.entries)))) (sym is.0) tt) rolls (λ z. subst (λ (o : Option TxnAt). IfSome o (IsViewOf k.under (E None) c (rest_of (from_begin h.begun k.entries)))) (sym is.0) tt)
 
       -- it is answered
       sweep_ends : (b : Answer) → IsMiddle b → (is_conflict (Some b) ≡ false → IsCaused catalog (E (Some b)) c (done b) b) → RollsThen b → So (Some b) (record h { vacuum = None })
@@ -696,7 +730,7 @@ module _ (catalog : List Table) (events : List Event) (states : ℕ → ClientSt
           answers b (record h { vacuum = None }) caused (unmoved (E (Some b)) c (k.entries ++ done b ∷ []) (done b) b refl m.agrees) refl refl
           (subst (DoingByHistory (E (Some b)) c h.begun (k.entries ++ done b ∷ []) None h.plan) (sym is.0) (refl, after_more k.entries (done b) ∙ ap (λ x. is_open_after x (done b)) is.1 ∙ after_plain false (done b) (begins_none b) (λ e. clash (sym e))))
           (λ e. clash (sym e ∙ no_commit), subst (ReadByTxn (read_items_since (E (Some b)) c h.begun (k.entries ++ done b ∷ []))) (sym is.0) tt)
-          (subst (λ (o : Option TxnAt). IfSome o (IsFilled (E (Some b)) c (rest_of (from_begin h.begun (k.entries ++ done b ∷ []))))) (sym is.0) tt) (subst (λ (o : Option TxnAt). IfSome o (IsFitOrReadTxn catalog (E (Some b)) c (rest_of (from_begin h.begun (k.entries ++ done b ∷ []))))) (sym is.0) tt) rolls ((λ was. clash (sym was ∙ is.1)), subst (λ (o : Option TxnAt). IfSome o (IsViewOf catalog (E (Some b)) c (rest_of (from_begin h.begun (k.entries ++ done b ∷ []))))) (sym is.0) tt)
+          (subst (λ (o : Option TxnAt). IfSome o (IsFilled (E (Some b)) c (rest_of (from_begin h.begun (k.entries ++ done b ∷ []))))) (sym is.0) tt) (subst (λ (o : Option TxnAt). IfSome o (IsFitOrReadTxn tables (E (Some b)) c (rest_of (from_begin h.begun (k.entries ++ done b ∷ []))))) (sym is.0) tt) rolls ((λ was. clash (sym was ∙ is.1)), subst (λ (o : Option TxnAt). IfSome o (IsViewOf tables (E (Some b)) c (rest_of (from_begin h.begun (k.entries ++ done b ∷ []))))) (sym is.0) tt)
 
       sweep_goes_on : (left : VacuumAt) → Gives (vacuum_step v y.now y.reply) left vacuuming.More → So None (record h { vacuum = Some left })
       sweep_goes_on left g =
@@ -743,8 +777,8 @@ module _ (catalog : List Table) (events : List Event) (states : ℕ → ClientSt
       by None e is = absurd is
       by (Some w) e is = (w, e, is)
 
-  asked_by : (t : TxnAt) (p : Planned) (a : Access) (x : ReadAt) → IsReadAt h y.request t p a x → IsAskedBy catalog p a x
-  asked_by t p a x at = asked_at catalog h y.request y.reply y.now called.waiting.fitted at
+  asked_by : (t : TxnAt) (p : Planned) (a : Access) (x : ReadAt) → IsReadAt h y.request t p a x → IsAskedBy tables p a x
+  asked_by t p a x at = asked_at tables h y.request y.reply y.now called.waiting.fitted at
 
   pub replies_known : (result : Option Answer) (d : Client) → Step h (Receives y.request y.reply y.now) result d → So result d
   replies_known result d (ReadGoesOn t p a x at more) = let w = reads_for t p a x at in read_goes_on w.0 w.1 t at.opened at.free p a x at.plan at.doing (asked_by t p a x at) w.2 (read_step x.stage y.now y.reply) refl more

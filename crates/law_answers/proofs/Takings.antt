@@ -12,10 +12,11 @@ use Rattle.sdb_schema.specs.Catalog.{is_catalog}
 use Rattle.sdb_model.specs.declared.answer.Answer.TheVariants as answer
 use Rattle.sdb_model.specs.declared.event.Event.TheVariants as event
 use Rattle.sdb_model.specs.declared.statement.Statement.TheVariants as statement
+use Rattle.sdb_model.specs.Catalogs.{catalog_after}
 use Rattle.sdb_model.specs.Calls.{StoreCall, calls_by, calls_of, end_of}
-use Rattle.sdb_model.specs.Causes.{IsBadRecord, IsCaused, IsRejected, MayPassMost, NeedsTransaction, SomeClient, before, is_open, is_open_after, records_found, refused, removes, runs_vacuum}
+use Rattle.sdb_model.specs.Causes.{IsBadRecord, IsCaused, IsRejected, MayPassMost, NeedsTransaction, before, records_found, refused, removes}
 use Rattle.sdb_model.specs.Exec.{find_table, table_of}
-use Rattle.sdb_model.specs.Follows.{has_stopped}
+use Rattle.sdb_model.specs.Follows.{SomeClient, has_stopped, is_open, is_open_after, runs_vacuum}
 use Rattle.sdb_model.specs.Refused.{refusal_of}
 use Rattle.sdb_model.specs.Sql.{Reads, reads_begin, reads_commit, reads_rollback, reads_vacuum}
 use Rattle.sdb_model.specs.Transactions.{Executed, begins, changes_nothing, ends, from_begin, id_of, is_conflict, is_done, rest_of, statements_by}
@@ -33,6 +34,7 @@ use Rattle.law_clients.specs.Invariant.{IsInner}
 use Rattle.sdb_snapshot.specs.Seen.{overlay, row_seen}
 use Rattle.law_clients.specs.States.{ClientState, IsReady}
 use Rattle.law_clients.proofs.Public.{access_table, by_memory, each_more, found_itself, given_finishes, inner_read, IsOnTable, literals_read, on_table, other_no_begin, other_no_commit, own_table, refused_no_commit, take_executed}
+use Rattle.sdb_model.proofs.Public.{same_length}
 use Rattle.sdb_client.proofs.Public.{names_table, text_of_step}
 use Rattle.law_clients.specs.History.{executed_of_take, waiting_of}
 use Rattle.sdb_types.proofs.Public.{by_test, clash, length_more, none_some, some_is}
@@ -43,7 +45,7 @@ use Rattle.law_answers.specs.Changes.{SeenBy, read_items_of_body}
 use Rattle.law_answers.proofs.Conflicts.{begins_checked}
 use Rattle.law_answers.proofs.Moving.{IsTaken, work_by}
 use Rattle.law_answers.proofs.ReadSets.{moved_all, moved_still, noted_more, noted_still, rest_all, since_all, unmoved}
-use Rattle.law_answers.specs.Invariant.{IsAnswered, IsDoing, CauseInvariant, IsGate, IsReadSetOf, IsOpenAs, Knows, SomeInVacuum, DoingByHistory, ClientByHistory, begun_in, open_after}
+use Rattle.law_answers.specs.Invariant.{IsAnswered, IsCurrent, IsDoing, CauseInvariant, IsGate, IsReadSetOf, IsOpenAs, Knows, SomeInVacuum, DoingByHistory, ClientByHistory, begun_in, open_after}
 use Rattle.law_answers.specs.Unfit.{IsFitOrReadTxn, SeesFitOrRead, SeesFitOrReadIn, AreStoredReplies}
 use Rattle.law_answers.proofs.Calls.{before_taken, calls_open, calls_within, end_answered, end_waiting, later_same, none_made}
 use Rattle.law_answers.proofs.Filling.{filled_found, filled_given, filled_idle, filled_more, filled_nothing, filled_stays, filled_up, further, passes_given, zero_least}
@@ -51,13 +53,13 @@ use Rattle.law_answers.proofs.Passing.{pass_now, least}
 use Rattle.law_answers.proofs.Misfits.{fit_nothing, fits_idle, fits_more, fits_stay, meets_now}
 use Rattle.law_answers.proofs.Unfit.{given_fits, was_misfit}
 use Rattle.law_answers.proofs.Given.{IsMiddle, given_caused, given_middle, unfit_data}
-use Rattle.law_answers.proofs.Knowing.{after_begin, after_end, after_more, after_plain, open_more, open_now, sweeps_now}
+use Rattle.law_answers.proofs.Knowing.{KnowsUnder, after_begin, after_end, after_more, after_plain, open_more, open_now, sweeps_now}
 use Rattle.law_answers.proofs.Later.{answered_stay}
 use Rattle.law_answers.proofs.Lists.{begun_more, begun_same, since_new}
 use Rattle.law_answers.proofs.Stages.{begins_standing}
-use Rattle.law_answers.specs.Counts.{CommitIsCounted, ReadByTxn, ReadByDoing, ReadItemsAre, OpenCounted, VacuumIsCounted, WaitCounted, read_items_since}
+use Rattle.law_answers.specs.Counts.{CommitIsCounted, ReadByTxn, ReadByDoing, ReadItemsAre, OpenCounted, WaitCounted, read_items_since}
 use Rattle.law_answers.proofs.Counting.{counts_end, counts_on, none_counted}
-use Rattle.law_answers.proofs.Counts.{sweep_begins}
+use Rattle.law_answers.proofs.Counts.{counted_under, sweep_begins}
 use Rattle.law_answers.specs.Rolled.{WaitRolls}
 use Rattle.law_answers.proofs.Rolled.{none_found, rolls_end, rolls_on}
 use Rattle.law_answers.proofs.CountsCommit.{commit_begins, commit_none}
@@ -150,42 +152,70 @@ none_yet c events text result =
 
 ---- the taking
 
-module _ (q : Taking) (events : List Event) (states : ℕ → ClientState) (ex : CauseInvariant q.catalog events q.now states) (c : ℕ) (ready : IsReady states c) (gate : IsGate states c q.gate) (moment : is_moment q.now ≡ true) (is : is_catalog q.catalog ≡ true)
+module _ (catalog : List Table) (q : Taking) (events : List Event) (current : q.catalog ≡ catalog_after catalog events) (states : ℕ → ClientState) (ex : CauseInvariant catalog events q.now states) (c : ℕ) (ready : IsReady states c) (gate : IsGate states c q.gate) (moment : is_moment q.now ≡ true) (is : is_catalog q.catalog ≡ true)
     (sound : (t : TxnAt) → (states c).client.txn ≡ Some t → IsTaken t.seen) (apart : (x : Key) → is_some (find_table q.catalog x.table) ≡ true → is_data x ≡ true) (text : List ℕ) (numbered : q.fresh ≡ next_id (states c).client) where
   abbrev h : Client
   h = (states c).client
 
-  abbrev k : Knows q.catalog events c h
-  k = ex.each c
+  abbrev was : Knows catalog events c h
+  was = ex.each c
+
+  stands_free : DoingByHistory events c h.begun was.entries was.waiting h.plan h.txn
+  stands_free = subst (ClientByHistory events c h.begun was.entries was.waiting h.plan h.txn) ready.idle.free was.agrees
+
+  waits_none : was.waiting ≡ None
+  waits_none = by h.txn stands_free ready.idle.still
+    where
+      by_doing : (t : TxnAt) (d : Doing) → d ≡ doing.Idle → IsDoing events c t h.plan was.waiting d → was.waiting ≡ None
+      by_doing t d e s = subst (IsDoing events c t h.plan was.waiting) e s
+
+      by : (o : Option TxnAt) → DoingByHistory events c h.begun was.entries was.waiting h.plan o → IfSome o (λ t. t.doing ≡ doing.Idle) → was.waiting ≡ None
+      by None s i = s.0
+      by (Some t) s i = by_doing t t.doing i s.2
+
+  -- what holds of its transaction, under the catalog with which it runs
+  under_now : (P : List Table → TxnAt → Type 0) (o : Option TxnAt) → IsCurrent catalog events o was.under → IfSome o (P was.under) → IfSome o (P q.catalog)
+  under_now P None runs h = tt
+  under_now P (Some t) runs h = subst (λ (ts : List Table). P ts t) (runs ∙ sym current) h
+
+  -- it runs under the catalog of the moment, with which the statement is taken
+  abbrev k : Knows catalog events c h
+  k = record {
+    entries = was.entries;
+    waiting = was.waiting;
+    under = q.catalog;
+    asked = subst (λ (o : Option Executed). IfSome o (λ w. catalog_after catalog (before w events) ≡ q.catalog)) (sym waits_none) tt;
+    same = was.same;
+    answered = was.answered;
+    waits = was.waits;
+    moved = was.moved;
+    number = was.number;
+    begun = was.begun;
+    small = was.small;
+    agrees = was.agrees;
+    counted = was.counted;
+    filled = was.filled;
+    fits = under_now (λ ts t. IsFitOrReadTxn ts events c (rest_of (from_begin h.begun was.entries)) t) h.txn (ex.current c ready.goes_on) was.fits;
+    stored = was.stored;
+    rolled = was.rolled;
+    shows = record { given_own = was.shows.given_own; sees_own = under_now (λ ts t. IsViewOf ts events c (rest_of (from_begin h.begun was.entries)) t) h.txn (ex.current c ready.goes_on) was.shows.sees_own };
+  }
 
   -- with the event
   abbrev E : Option Answer → List Event
   E result = events ++ event.Take c text result ∷ []
 
   abbrev pub Turned : Option Answer → Type 0
-  Turned result = (b : Answer) → IsRejected q.catalog events c text b → (result ≡ Some b) ⊎ (result ≡ Some answer.NoMemory)
-
-  stands_free : DoingByHistory events c h.begun k.entries k.waiting h.plan h.txn
-  stands_free = subst (ClientByHistory events c h.begun k.entries k.waiting h.plan h.txn) ready.idle.free k.agrees
-
-  waits_none : k.waiting ≡ None
-  waits_none = by h.txn stands_free ready.idle.still
-    where
-      by_doing : (t : TxnAt) (d : Doing) → d ≡ doing.Idle → IsDoing events c t h.plan k.waiting d → k.waiting ≡ None
-      by_doing t d e s = subst (IsDoing events c t h.plan k.waiting) e s
-
-      by : (o : Option TxnAt) → DoingByHistory events c h.begun k.entries k.waiting h.plan o → IfSome o (λ t. t.doing ≡ doing.Idle) → k.waiting ≡ None
-      by None s i = s.0
-      by (Some t) s i = by_doing t t.doing i s.2
+  Turned result = (b : Answer) → IsRejected catalog events c text b → (result ≡ Some b) ⊎ (result ≡ Some answer.NoMemory)
 
   said_told : statements_by c events ≡ k.entries
   said_told = k.same ∙ ap (λ o. k.entries ++ waiting_of o) waits_none ∙ append-nil k.entries
 
   opened : (d : ℕ) → is_open events d ≡ is_some (states d).client.txn
-  opened d = open_now q.catalog events d (states d).client (ex.each d)
+  opened d = open_now catalog events d (states d).client (ex.each d)
 
   sweeping : (d : ℕ) → runs_vacuum events d ≡ is_some (states d).client.vacuum
-  sweeping d = sweeps_now q.catalog events d (states d).client (ex.each d)
+  sweeping d = sweeps_now catalog events d (states d).client (ex.each d)
 
   goes_on : has_stopped c events ≡ false
   goes_on = ex.stopped c ∙ ready.goes_on
@@ -248,9 +278,9 @@ module _ (q : Taking) (events : List Event) (states : ℕ → ClientState) (ex :
           either (is_some h.txn) q.gate.open_elsewhere
           (by_test q.gate.open_elsewhere (λ t. t) (λ f. clash (sym (sym (opened d) ∙ is) ∙ gate.none f d (eqb-false d c e) (sym (ex.stopped d) ∙ goes))))
 
-  vacuum_turned : (b : Bool) (catalog : List Table) (result : Option Answer) (d : Client) → b ≡ true → VacuumStartPost b catalog h result d → result ≡ Some answer.OpenTransactions
-  vacuum_turned true catalog result d e x = x.answer
-  vacuum_turned false catalog result d e x = clash (sym e)
+  vacuum_turned : (b : Bool) (ts : List Table) (result : Option Answer) (d : Client) → b ≡ true → VacuumStartPost b ts h result d → result ≡ Some answer.OpenTransactions
+  vacuum_turned true ts result d e x = x.answer
+  vacuum_turned false ts result d e x = clash (sym e)
 
   -- a client that goes on runs VACUUM: another one, since this one waits for a statement
   meets_sweep : SomeClient runs_vacuum events → q.gate.vacuum_runs ≡ true
@@ -282,7 +312,7 @@ module _ (q : Taking) (events : List Event) (states : ℕ → ClientState) (ex :
   turned_told result d (Ok st, reads, x) b (inr (inr (inl y))) =
       inl (turns_outside y.0 result d y.2 (sym (opened c) ∙ y.3) (subst (λ z. StatementPost q z h result d) (one_statement text st y.0 reads y.1) x) ∙ ap Some (sym y.4))
   turned_told result d (Ok st, reads, x) b (inr (inr (inr (inl y)))) =
-      inl (turns_unfit y.0 y.1 result d y.4 (sym (opened c) ∙ y.3) y.5 (subst (λ z. StatementPost q z h result d) (one_statement text st y.0 reads y.2) x) ∙ ap Some (sym y.6))
+      inl (turns_unfit y.0 y.1 result d y.4 (sym (opened c) ∙ y.3) (ap (λ (ts : List Table). refusal_of ts y.0) current ∙ y.5) (subst (λ z. StatementPost q z h result d) (one_statement text st y.0 reads y.2) x) ∙ ap Some (sym y.6))
   turned_told result d (Ok st, reads, x) b (inr (inr (inr (inr (inl y))))) =
       inl (turns_sweep h.txn result d (sym (opened c) ∙ y.1) (meets_sweep y.2) (subst (λ z. StatementPost q z h result d) (one_statement text st statement.Begin reads y.0) x) ∙ ap Some (sym y.3))
   turned_told result d (Ok st, reads, x) b (inr (inr (inr (inr (inr y))))) =
@@ -291,7 +321,7 @@ module _ (q : Taking) (events : List Event) (states : ℕ → ClientState) (ex :
   ---- where the client is then known
 
   abbrev So : Option Answer → Client → Type 0
-  So result d = Knows q.catalog (E result) c d
+  So result d = KnowsUnder catalog (E result) c d q.catalog
 
   as_so : (r result : Option Answer) (u d : Client) → result ≡ r → d ≡ u → So r u → So result d
   as_so r result u d e f s = subst (λ (x : Option Answer). So x d) (sym e) (subst (λ (x : Client). So r x) (sym f) s)
@@ -299,21 +329,25 @@ module _ (q : Taking) (events : List Event) (states : ℕ → ClientState) (ex :
   abbrev one : Option Answer → Executed
   one result = executed_of_take events text result
 
+  -- it runs under that catalog
+  asked_now : (result : Option Answer) → catalog_after catalog (before (one result) (E result)) ≡ q.catalog
+  asked_now result = ap (catalog_after catalog) (before_taken events (event.Take c text result) text result) ∙ sym current
+
   still_stored : (result : Option Answer) → AreStoredReplies (calls_by (E result) c)
   still_stored result = subst AreStoredReplies (sym (none_made c events (event.Take c text result) refl)) k.stored
 
   within_now : (result : Option Answer) → 1 + length events ≤ length (E result)
   within_now result = let e : length (E result) ≡ length events + 1 = length_more events (event.Take c text result) in omega arith
 
-  away : (result : Option Answer) (b : Answer) → IsRejected q.catalog (before (one result) (E result)) c text b → IsRejected q.catalog events c text b
-  away result b = subst (λ es. IsRejected q.catalog es c text b) (before_taken events (event.Take c text result) text result)
+  away : (result : Option Answer) (b : Answer) → IsRejected catalog (before (one result) (E result)) c text b → IsRejected catalog events c text b
+  away result b = subst (λ es. IsRejected catalog es c text b) (before_taken events (event.Take c text result) text result)
 
   -- why it is answered so
   abbrev Caused : Answer → Type 0
-  Caused b = is_conflict (Some b) ≡ false → IsCaused q.catalog (E (Some b)) c (one (Some b)) b
+  Caused b = is_conflict (Some b) ≡ false → IsCaused catalog (E (Some b)) c (one (Some b)) b
 
-  by_turning : (b : Answer) → IsRejected q.catalog events c text b → IsRejected q.catalog (before (one (Some b)) (E (Some b))) c text b
-  by_turning b = subst (λ es. IsRejected q.catalog es c text b) (sym (before_taken events (event.Take c text (Some b)) text (Some b)))
+  by_turning : (b : Answer) → IsRejected catalog events c text b → IsRejected catalog (before (one (Some b)) (E (Some b))) c text b
+  by_turning b = subst (λ es. IsRejected catalog es c text b) (sym (before_taken events (event.Take c text (Some b)) text (Some b)))
 
   -- a BEGIN is answered Done where no transaction is open
   pairs_once : (b : Answer) → Turned (Some b) → begins (one (Some b)) ≡ true → open_after k.entries ≡ false
@@ -335,7 +369,7 @@ module _ (q : Taking) (events : List Event) (states : ℕ → ClientState) (ex :
 
       uncommitted : b ≡ answer.Committed → ⊥
       uncommitted e =
-          let z : IsCaused q.catalog (E (Some b)) c (one (Some b)) answer.Committed = subst (λ a. is_conflict (Some a) ≡ false → IsCaused q.catalog (E (Some b)) c (one (Some b)) a) e caused refl in
+          let z : IsCaused catalog (E (Some b)) c (one (Some b)) answer.Committed = subst (λ a. is_conflict (Some a) ≡ false → IsCaused catalog (E (Some b)) c (one (Some b)) a) e caused refl in
           undecided (calls_of (E (Some b)) c (one (Some b))) z.0 (none_yet c events text (Some b)) z.2
 
   -- what its transaction has then noted
@@ -344,32 +378,37 @@ module _ (q : Taking) (events : List Event) (states : ℕ → ClientState) (ex :
 
   -- it is answered at once
   at_once : (b : Answer) (d : Client) → is_conflict (Some b) ≡ false → Caused b → Turned (Some b) → d.number ≡ h.number → d.begun ≡ begun_in (k.entries ++ one (Some b) ∷ []) → d.begun < 2 ^ 64
-      → ClientByHistory (E (Some b)) c d.begun (k.entries ++ one (Some b) ∷ []) None d.plan d.txn d.vacuum → NotedThen (Some b) d → IfSome d.txn (IsFilled (E (Some b)) c (rest_of (from_begin d.begun (k.entries ++ one (Some b) ∷ [])))) → IfSome d.txn (IsFitOrReadTxn q.catalog (E (Some b)) c (rest_of (from_begin d.begun (k.entries ++ one (Some b) ∷ [])))) → ShowsNext q.catalog (E (Some b)) c k.entries (one (Some b)) b d → So (Some b) d
-  at_once b d agrees caused turned number begun small agreed as_read filled fits shows = record {
-    entries = k.entries ++ one (Some b) ∷ [];
-    waiting = None;
-    same = executed_more ∙ sym (append-nil (k.entries ++ one (Some b) ∷ []));
-    answered = each_more (IsAnswered q.catalog (E (Some b)) c) k.entries (one (Some b)) (answered_stay q.catalog c events (event.Take c text (Some b)) k.entries (inr (inl (one (Some b), said_now))) k.answered) (record {
-      given = b;
-      is = refl;
-      accepted = within_now (Some b);
-      answered = within_now (Some b);
-      caused = caused;
-      rejected = λ a t. (refl, turned a (away (Some b) a t));
-    });
-    waits = tt;
-    moved = moved_all q.catalog events (event.Take c text (Some b)) c k.entries (one (Some b)) k.answered k.moved (unmoved (E (Some b)) c (k.entries ++ one (Some b) ∷ []) (one (Some b)) b refl agrees);
-    number = number ∙ k.number;
-    begun = begun;
-    small = small;
-    agrees = agreed;
-    counted = counts_end q.catalog c events (event.Take c text (Some b)) k.entries k.waiting h k.answered k.counted (one (Some b)) d [] k.begun (none_yet c events text (Some b)) (none_counted q.catalog text [] refl) (pairs_once b turned) (fits_once b caused) as_read;
-    filled = filled;
-    fits = fits;
-    stored = still_stored (Some b);
-    rolled = rolls_end q.catalog c events (event.Take c text (Some b)) k.entries k.waiting h k.answered k.rolled (one (Some b)) d [] (none_yet c events text (Some b)) (λ read. none_found (E (Some b)) (reads_vacuum text));
-    shows = shows_end q.catalog c events (event.Take c text (Some b)) k.entries k.answered h k.shows k.counted.paired (one (Some b)) b d refl shows;
-  }
+      → ClientByHistory (E (Some b)) c d.begun (k.entries ++ one (Some b) ∷ []) None d.plan d.txn d.vacuum → NotedThen (Some b) d → IfSome d.txn (IsFilled (E (Some b)) c (rest_of (from_begin d.begun (k.entries ++ one (Some b) ∷ [])))) → IfSome d.txn (IsFitOrReadTxn q.catalog (E (Some b)) c (rest_of (from_begin d.begun (k.entries ++ one (Some b) ∷ [])))) → ShowsNext catalog q.catalog (E (Some b)) c k.entries (one (Some b)) b d → So (Some b) d
+  at_once b d agrees caused turned number begun small agreed as_read filled fits shows = (
+    record {
+      entries = k.entries ++ one (Some b) ∷ [];
+      waiting = None;
+      under = q.catalog;
+      asked = tt;
+      same = executed_more ∙ sym (append-nil (k.entries ++ one (Some b) ∷ []));
+      answered = each_more (IsAnswered catalog (E (Some b)) c) k.entries (one (Some b)) (answered_stay catalog c events (event.Take c text (Some b)) k.entries (inr (inl (one (Some b), said_now))) k.answered) (record {
+        given = b;
+        is = refl;
+        accepted = within_now (Some b);
+        answered = within_now (Some b);
+        caused = caused;
+        rejected = λ a t. (refl, turned a (away (Some b) a t));
+      });
+      waits = tt;
+      moved = moved_all catalog events (event.Take c text (Some b)) c k.entries (one (Some b)) k.answered k.moved (unmoved (E (Some b)) c (k.entries ++ one (Some b) ∷ []) (one (Some b)) b refl agrees);
+      number = number ∙ k.number;
+      begun = begun;
+      small = small;
+      agrees = agreed;
+      counted = counts_end catalog c events (event.Take c text (Some b)) k.entries k.waiting h k.answered k.counted (one (Some b)) d [] k.begun (none_yet c events text (Some b)) (none_counted catalog text [] refl) (pairs_once b turned) (fits_once b caused) as_read;
+      filled = filled;
+      fits = fits;
+      stored = still_stored (Some b);
+      rolled = rolls_end catalog c events (event.Take c text (Some b)) k.entries k.waiting h k.answered k.rolled (one (Some b)) d [] (none_yet c events text (Some b)) (λ read. none_found (E (Some b)) (reads_vacuum text));
+      shows = shows_end catalog q.catalog c events (event.Take c text (Some b)) k.entries k.answered h k.shows k.counted.paired q.catalog (one (Some b)) b d refl shows;
+    },
+    refl,
+  )
     where
       said_now : statements_by c (E (Some b)) ≡ statements_by c events ++ one (Some b) ∷ []
       said_now = take_executed c events text (Some b)
@@ -386,36 +425,41 @@ module _ (q : Taking) (events : List Event) (states : ℕ → ClientState) (ex :
 
   -- what it then sees
   abbrev SeesThen : Client → Type 0
-  SeesThen d = ViewBy q.catalog events c k.entries h → IfSome d.txn (IsViewOf q.catalog (E None) c (rest_of (from_begin d.begun k.entries)))
+  SeesThen d = ViewBy catalog q.catalog events c k.entries h → IfSome d.txn (IsViewOf q.catalog (E None) c (rest_of (from_begin d.begun k.entries)))
 
   -- it waits
   waits : (d : Client) → Turned None → reads_begin text ≡ false → reads_vacuum text ≡ is_some d.vacuum → is_some h.txn ≡ not (is_some d.vacuum) → d.number ≡ h.number → d.begun ≡ h.begun
-      → ClientByHistory (E None) c d.begun k.entries (Some (one None)) d.plan d.txn d.vacuum → ReadByTxn so_noted d.txn × WaitCounted q.catalog text so_id so_noted [] d.vacuum d.txn → IfSome d.txn (IsFilled (E None) c (rest_of (from_begin d.begun k.entries))) → IfSome d.txn (IsFitOrReadTxn q.catalog (E None) c (rest_of (from_begin d.begun k.entries))) → WaitRolls (E None) (reads_vacuum text) [] d.vacuum d.txn → SeesThen d → So None d
-  waits d turned no_begin vacuums open_txn number begun agreed begins_counted filled fits rolls sees = record {
-    entries = k.entries;
-    waiting = Some (one None);
-    same = take_executed c events text None ∙ ap (λ ss. ss ++ one None ∷ []) said_told;
-    answered = answered_stay q.catalog c events (event.Take c text None) k.entries (inr (inl (one None, take_executed c events text None))) k.answered;
-    waits = record {
-      unanswered = refl;
-      accepted = within_now None;
-      begin = no_begin;
-      vacuum = vacuums;
-      opened = ap (λ es. is_open es c) (before_taken events (event.Take c text None) text None) ∙ opened c ∙ open_txn;
-      stays = λ a t. none (turned a (away None a t));
-    };
-    moved = moved_still q.catalog events (event.Take c text None) c k.entries k.entries k.answered k.moved;
-    number = number ∙ k.number;
-    begun = begun ∙ k.begun;
-    small = subst (λ n. n < 2 ^ 64) (sym begun) k.small;
-    agrees = agreed;
-    counted = counts_on q.catalog c events (event.Take c text None) k.entries k.waiting h k.answered k.counted (one None) d [] begun (none_yet c events text None) begins_counted.0 begins_counted.1;
-    filled = filled;
-    fits = fits;
-    stored = still_stored None;
-    rolled = rolls_on q.catalog c events (event.Take c text None) k.entries k.waiting h k.answered k.rolled (one None) d [] (none_yet c events text None) rolls;
-    shows = shows_further q.catalog c events (event.Take c text None) k.entries k.answered h k.shows d sees;
-  }
+      → ClientByHistory (E None) c d.begun k.entries (Some (one None)) d.plan d.txn d.vacuum → ReadByTxn so_noted d.txn × WaitCounted catalog text so_id so_noted [] d.vacuum d.txn → IfSome d.txn (IsFilled (E None) c (rest_of (from_begin d.begun k.entries))) → IfSome d.txn (IsFitOrReadTxn q.catalog (E None) c (rest_of (from_begin d.begun k.entries))) → WaitRolls (E None) (reads_vacuum text) [] d.vacuum d.txn → SeesThen d → So None d
+  waits d turned no_begin vacuums open_txn number begun agreed begins_counted filled fits rolls sees = (
+    record {
+      entries = k.entries;
+      waiting = Some (one None);
+      under = q.catalog;
+      asked = asked_now None;
+      same = take_executed c events text None ∙ ap (λ ss. ss ++ one None ∷ []) said_told;
+      answered = answered_stay catalog c events (event.Take c text None) k.entries (inr (inl (one None, take_executed c events text None))) k.answered;
+      waits = record {
+        unanswered = refl;
+        accepted = within_now None;
+        begin = no_begin;
+        vacuum = vacuums;
+        opened = ap (λ es. is_open es c) (before_taken events (event.Take c text None) text None) ∙ opened c ∙ open_txn;
+        stays = λ a t. none (turned a (away None a t));
+      };
+      moved = moved_still catalog events (event.Take c text None) c k.entries k.entries k.answered k.moved;
+      number = number ∙ k.number;
+      begun = begun ∙ k.begun;
+      small = subst (λ n. n < 2 ^ 64) (sym begun) k.small;
+      agrees = agreed;
+      counted = counts_on catalog c events (event.Take c text None) k.entries k.waiting h k.answered k.counted (one None) d [] begun (none_yet c events text None) begins_counted.0 begins_counted.1;
+      filled = filled;
+      fits = fits;
+      stored = still_stored None;
+      rolled = rolls_on catalog c events (event.Take c text None) k.entries k.waiting h k.answered k.rolled (one None) d [] (none_yet c events text None) rolls;
+      shows = shows_further catalog q.catalog c events (event.Take c text None) k.entries k.answered h k.shows q.catalog d sees;
+    },
+    refl,
+  )
     where
       none : {b : Answer} → (◌≡◌ {A = Option Answer} None (Some b)) ⊎ (◌≡◌ {A = Option Answer} None (Some answer.NoMemory)) → ⊥
       none (inl e) = none_some _ e
@@ -426,7 +470,7 @@ module _ (q : Taking) (events : List Event) (states : ℕ → ClientState) (ex :
       → DoingByHistory (E None) c d.begun k.entries (Some (one None)) d.plan d.txn → ReadByTxn so_noted d.txn × OpenCounted text so_id so_noted [] d.txn → IfSome d.txn (IsFilled (E None) c (rest_of (from_begin d.begun k.entries))) → IfSome d.txn (IsFitOrReadTxn q.catalog (E None) c (rest_of (from_begin d.begun k.entries))) → WaitRolls (E None) (reads_vacuum text) [] None d.txn → SeesThen d → So None d
   waits_open d turned no_begin no_vacuum open_txn number begun same agreed begins_counted filled fits rolls sees =
       let free : d.vacuum ≡ None = same ∙ ready.idle.free in
-      waits d turned no_begin (no_vacuum ∙ sym (ap is_some free)) (open_txn ∙ sym (ap (λ o. not (is_some o)) free)) number begun (subst (ClientByHistory (E None) c d.begun k.entries (Some (one None)) d.plan d.txn) (sym free) agreed) (begins_counted.0, subst (λ v. WaitCounted q.catalog text so_id so_noted [] v d.txn) (sym free) begins_counted.1) filled fits (subst (λ v. WaitRolls (E None) (reads_vacuum text) [] v d.txn) (sym free) rolls) sees
+      waits d turned no_begin (no_vacuum ∙ sym (ap is_some free)) (open_txn ∙ sym (ap (λ o. not (is_some o)) free)) number begun (subst (ClientByHistory (E None) c d.begun k.entries (Some (one None)) d.plan d.txn) (sym free) agreed) (begins_counted.0, subst (λ v. WaitCounted catalog text so_id so_noted [] v d.txn) (sym free) begins_counted.1) filled fits (subst (λ v. WaitRolls (E None) (reads_vacuum text) [] v d.txn) (sym free) rolls) sees
 
   ---- where it is then
 
@@ -446,7 +490,7 @@ module _ (q : Taking) (events : List Event) (states : ℕ → ClientState) (ex :
     after_more k.entries (one (Some b)) ∙ ap (λ w. is_open_after w (one (Some b))) is ∙ after_plain true (one (Some b)) (undone_begins (one (Some b)) b refl m.undone) (λ e. middle_ends (one (Some b)) b refl m no_commit),
     open_more c h.begun k.entries t u (one (Some b)) same (middle_ends (one (Some b)) b refl m no_commit) o,
     subst (IsDoing (E (Some b)) c u p None) (sym idle) refl,
-    subst (λ d. IsReadSetOf (E (Some b)) c (k.entries ++ one (Some b) ∷ []) (o.body ++ one (Some b) ∷ []) u d None) (sym idle) (noted_more q.catalog events (event.Take c text (Some b)) c h.begun k.entries t o k.answered (one (Some b)) t.seen u.seen r x noting),
+    subst (λ d. IsReadSetOf (E (Some b)) c (k.entries ++ one (Some b) ∷ []) (o.body ++ one (Some b) ∷ []) u d None) (sym idle) (noted_more catalog events (event.Take c text (Some b)) c h.begun k.entries t o k.answered (one (Some b)) t.seen u.seen r x noting),
   )
 
   idle_of : (t : TxnAt) → h.txn ≡ Some t → t.doing ≡ doing.Idle
@@ -460,7 +504,7 @@ module _ (q : Taking) (events : List Event) (states : ℕ → ClientState) (ex :
 
   -- it makes no call, and notes nothing
   noted_at_once : (result : Option Answer) → read_items_since (E result) c h.begun (k.entries ++ one result ∷ []) ≡ so_noted
-  noted_at_once result = since_same (E result) c h.begun k.entries (one result) (none_called (E result) c (one result) (none_yet c events text result)) ∙ since_stay q.catalog events (event.Take c text result) c h.begun k.entries k.answered
+  noted_at_once result = since_same (E result) c h.begun k.entries (one result) (none_called (E result) c (one result) (none_yet c events text result)) ∙ since_stay catalog events (event.Take c text result) c h.begun k.entries k.answered
 
   -- no more keys are written than rows counted
   filled_open : (t : TxnAt) (e : h.txn ≡ Some t) → IsFilledBy (rows_counted_by (stands_open t e).1.body) (records_found_by events c (stands_open t e).1.body) t.seen
@@ -469,15 +513,15 @@ module _ (q : Taking) (events : List Event) (states : ℕ → ClientState) (ex :
       subst (λ r. IsFilledIn events c (rest_of r) t.seen doing.Idle) (stands_open t e).1.since (subst (IsFilledIn events c (rest_of (from_begin h.begun k.entries)) t.seen) (idle_of t e) s)
 
   filled_reading : (t : TxnAt) → h.txn ≡ Some t → IsFilledBy (rows_counted_by (rest_of (from_begin h.begun k.entries))) (records_found_by (E None) c (rest_of (from_begin h.begun k.entries))) t.seen
-  filled_reading t e = subst (IsFilledIn (E None) c (rest_of (from_begin h.begun k.entries)) t.seen) (idle_of t e) (filled_stays q.catalog events (event.Take c text None) c (rest_of (from_begin h.begun k.entries)) (Some t) (rest_all (IsAnswered q.catalog events c) h.begun k.entries k.answered) (subst (λ (o : Option TxnAt). IfSome o (IsFilled events c (rest_of (from_begin h.begun k.entries)))) e k.filled))
+  filled_reading t e = subst (IsFilledIn (E None) c (rest_of (from_begin h.begun k.entries)) t.seen) (idle_of t e) (filled_stays catalog events (event.Take c text None) c (rest_of (from_begin h.begun k.entries)) (Some t) (rest_all (IsAnswered catalog events c) h.begun k.entries k.answered) (subst (λ (o : Option TxnAt). IfSome o (IsFilled events c (rest_of (from_begin h.begun k.entries)))) e k.filled))
 
   -- its statements were answered
-  body_open : (t : TxnAt) (e : h.txn ≡ Some t) → AllByRecursion (IsAnswered q.catalog events c) (stands_open t e).1.body
-  body_open t e = let o = (stands_open t e).1 in since_all (IsAnswered q.catalog events c) h.begun k.entries o.begin o.body k.answered o.since
+  body_open : (t : TxnAt) (e : h.txn ≡ Some t) → AllByRecursion (IsAnswered catalog events c) (stands_open t e).1.body
+  body_open t e = let o = (stands_open t e).1 in since_all (IsAnswered catalog events c) h.begun k.entries o.begin o.body k.answered o.since
 
   -- what it sees fits, or one of them read it
   fit_stays : (result : Option Answer) → IfSome h.txn (IsFitOrReadTxn q.catalog (E result) c (rest_of (from_begin h.begun k.entries)))
-  fit_stays result = fits_stay q.catalog events (event.Take c text result) c h.begun k.entries h.txn k.answered k.fits
+  fit_stays result = fits_stay catalog q.catalog events (event.Take c text result) c h.begun k.entries h.txn k.answered k.fits
 
   fit_reading : (t : TxnAt) → h.txn ≡ Some t → SeesFitOrRead q.catalog (E None) c (rest_of (from_begin h.begun k.entries)) t.seen
   fit_reading t e = subst (SeesFitOrReadIn q.catalog (E None) c (rest_of (from_begin h.begun k.entries)) t.seen) (idle_of t e) (subst (λ (o : Option TxnAt). IfSome o (IsFitOrReadTxn q.catalog (E None) c (rest_of (from_begin h.begun k.entries)))) e (fit_stays None))
@@ -494,8 +538,8 @@ module _ (q : Taking) (events : List Event) (states : ℕ → ClientState) (ex :
       let s : SeesOwnIn q.catalog events c (rest_of (from_begin h.begun k.entries)) t.seen t.doing = subst (λ (o : Option TxnAt). IfSome o (IsViewOf q.catalog events c (rest_of (from_begin h.begun k.entries)))) e k.shows.sees_own in
       subst (λ r. SeesOwnIn q.catalog events c (rest_of r) t.seen doing.Idle) (stands_open t e).1.since (subst (SeesOwnIn q.catalog events c (rest_of (from_begin h.begun k.entries)) t.seen) (idle_of t e) s)
 
-  sees_reading : (t : TxnAt) → h.txn ≡ Some t → ViewBy q.catalog events c k.entries h → SeesOwn q.catalog (E None) c (rest_of (from_begin h.begun k.entries)) t.seen
-  sees_reading t e x = subst (SeesOwnIn q.catalog (E None) c (rest_of (from_begin h.begun k.entries)) t.seen) (idle_of t e) (showing_stays q.catalog events (event.Take c text None) c h.begun k.entries (Some t) k.answered (subst (λ (o : Option TxnAt). IfSome o (IsViewOf q.catalog events c (rest_of (from_begin h.begun k.entries)))) e x.sees_own))
+  sees_reading : (t : TxnAt) → h.txn ≡ Some t → ViewBy catalog q.catalog events c k.entries h → SeesOwn q.catalog (E None) c (rest_of (from_begin h.begun k.entries)) t.seen
+  sees_reading t e x = subst (SeesOwnIn q.catalog (E None) c (rest_of (from_begin h.begun k.entries)) t.seen) (idle_of t e) (showing_stays catalog q.catalog events (event.Take c text None) c h.begun k.entries (Some t) k.answered (subst (λ (o : Option TxnAt). IfSome o (IsViewOf q.catalog events c (rest_of (from_begin h.begun k.entries)))) e x.sees_own))
 
   -- what it said then
   said_then : (b : Answer) → statements_by c (E (Some b)) ≡ k.entries ++ one (Some b) ∷ []
@@ -516,32 +560,32 @@ module _ (q : Taking) (events : List Event) (states : ℕ → ClientState) (ex :
       filled_by None e = tt
       filled_by (Some t) e =
           let o = (stands_open t e).1 in
-          filled_idle (E (Some b)) c h.begun k.entries (one (Some b)) o.begin o.body t o.since (idle_of t e) (filled_more q.catalog events (event.Take c text (Some b)) c o.body (one (Some b)) t.seen (body_open t e) (filled_open t e))
+          filled_idle (E (Some b)) c h.begun k.entries (one (Some b)) o.begin o.body t o.since (idle_of t e) (filled_more catalog events (event.Take c text (Some b)) c o.body (one (Some b)) t.seen (body_open t e) (filled_open t e))
 
       fits_by : (o : Option TxnAt) → h.txn ≡ o → IfSome o (IsFitOrReadTxn q.catalog (E (Some b)) c (rest_of (from_begin h.begun (k.entries ++ one (Some b) ∷ []))))
       fits_by None e = tt
       fits_by (Some t) e = let o = (stands_open t e).1 in fits_idle q.catalog (E (Some b)) c h.begun k.entries (one (Some b)) o.begin o.body t o.since (idle_of t e) (fit_more b t e)
 
-      shows_by : (o : Option TxnAt) → h.txn ≡ o → (open_after k.entries ≡ true → GivesOwn q.catalog (E (Some b)) c (rest_of (from_begin (begun_in k.entries) k.entries)) (one (Some b)) b) × IfSome o (IsViewOf q.catalog (E (Some b)) c (rest_of (from_begin h.begun (k.entries ++ one (Some b) ∷ []))))
+      shows_by : (o : Option TxnAt) → h.txn ≡ o → (open_after k.entries ≡ true → GivesOwn (catalog_after catalog (before (one (Some b)) (E (Some b)))) (E (Some b)) c (rest_of (from_begin (begun_in k.entries) k.entries)) (one (Some b)) b) × IfSome o (IsViewOf q.catalog (E (Some b)) c (rest_of (from_begin h.begun (k.entries ++ one (Some b) ∷ []))))
       shows_by None e = ((λ opens. clash (sym opens ∙ stands_closed e)), tt)
       shows_by (Some t) e =
           let o = (stands_open t e).1 in
-          next_same q.catalog c events (event.Take c text (Some b)) k.entries k.answered h.begun o.begin o.body o.since t.seen (sees_open t e) (one (Some b)) b t refl (idles (ap is_some e)) (idle_of t e) refl
+          next_same catalog q.catalog c events (event.Take c text (Some b)) k.entries k.answered h.begun o.begin o.body o.since t.seen (sees_open t e) (one (Some b)) b t refl (idles (ap is_some e)) (idle_of t e) refl
 
   refused_middle : (r : Refusal) → IsMiddle (answer.Refused r)
   refused_middle r = record { undone = refl; agrees = refl }
 
   -- it is refused
-  as_refused : (r : Refusal) → (is_some h.txn ≡ true → reads_commit text ≡ false) → IsRejected q.catalog events c text (answer.Refused r) → Turned (Some (answer.Refused r)) → So (Some (answer.Refused r)) h
+  as_refused : (r : Refusal) → (is_some h.txn ≡ true → reads_commit text ≡ false) → IsRejected catalog events c text (answer.Refused r) → Turned (Some (answer.Refused r)) → So (Some (answer.Refused r)) h
   as_refused r no_commit why turned = same (answer.Refused r) (refused_middle r) no_commit (λ z. refl) (λ e. inl (by_turning (answer.Refused r) why)) turned
 
-  outside : (st : Statement) → Reads text st → NeedsTransaction st → h.txn ≡ None → IsRejected q.catalog events c text (refused 5)
+  outside : (st : Statement) → Reads text st → NeedsTransaction st → h.txn ≡ None → IsRejected catalog events c text (refused 5)
   outside st reads needs e = inr (inr (inl (st, reads, needs, opened c ∙ ap is_some e, refl)))
 
   ---- each statement
 
   -- ended with its transaction
-  at_end : (b : Answer) → is_conflict (Some b) ≡ false → Caused b → Turned (Some b) → begins (one (Some b)) ≡ false → ends (one (Some b)) ≡ true → ((body : List Executed) → GivesOwn q.catalog (E (Some b)) c body (one (Some b)) b) → So (Some b) (resting h)
+  at_end : (b : Answer) → is_conflict (Some b) ≡ false → Caused b → Turned (Some b) → begins (one (Some b)) ≡ false → ends (one (Some b)) ≡ true → ((body : List Executed) → GivesOwn (catalog_after catalog (before (one (Some b)) (E (Some b)))) (E (Some b)) c body (one (Some b)) b) → So (Some b) (resting h)
   at_end b agrees caused turned no_begin over is_known =
       at_once b (resting h) agrees caused turned refl (k.begun ∙ sym (begun_same k.entries (one (Some b)) no_begin)) k.small (on_free (Some b) h.begun (k.entries ++ one (Some b) ∷ []) None None None (refl, after_more k.entries (one (Some b)) ∙ after_end (open_after k.entries) (one (Some b)) b no_begin over refl)) tt tt tt ((λ opens. is_known (rest_of (from_begin (begun_in k.entries) k.entries))), tt)
 
@@ -576,7 +620,7 @@ module _ (q : Taking) (events : List Event) (states : ℕ → ClientState) (ex :
         s.0,
         record { begin = s.1.begin; body = s.1.body; since = s.1.since; goes_on = s.1.goes_on; id = s.1.id; client = s.1.client },
         record { text = (commit_read text).1 reads; same = refl; moment = moment; stage = subst (λ ms. StageByCalls (work_of t q.now) ms (preparing (work_of t q.now) 0)) (sym (none_yet c events text None)) (begins_standing (work_of t q.now)) },
-        let seen : SeenBy (read_items_of_body (E None) c s.1.body) t.seen = noted_still q.catalog events (event.Take c text None) c h.begun k.entries t s.1 k.answered t.seen s.2 in
+        let seen : SeenBy (read_items_of_body (E None) c s.1.body) t.seen = noted_still catalog events (event.Take c text None) c h.begun k.entries t s.1 k.answered t.seen s.2 in
             (work_by (read_items_of_body (E None) c s.1.body) t q.now seen (sound t e), subst (λ ms. ChecksBy (read_items_of_body (E None) c s.1.body) (work_of t q.now) ms (preparing (work_of t q.now) 0)) (sym (none_yet c events text None)) (begins_checked (read_items_of_body (E None) c s.1.body) (work_of t q.now))),
       ) (noted_open t e, ((commit_read text).1 reads, s.1.id, (sound t e).kept.valid, commit_begins so_noted (work_of t q.now))) tt tt tt (λ z. tt)
 
@@ -605,7 +649,7 @@ module _ (q : Taking) (events : List Event) (states : ℕ → ClientState) (ex :
         shut,
         stands_closed shut,
         (sym (ap (count_by removes) (none_yet c events text None)), tt),
-      ) (k.counted.as_read, subst (λ (catalog : List Table). VacuumIsCounted catalog [] (begins_sweep (t ∷ ts))) (sym is_catalog) (sweep_begins t ts)) (subst (λ (o : Option TxnAt). IfSome o (IsFilled (E None) c (rest_of (from_begin h.begun k.entries)))) (sym shut) tt) (subst (λ (o : Option TxnAt). IfSome o (IsFitOrReadTxn q.catalog (E None) c (rest_of (from_begin h.begun k.entries)))) (sym shut) tt) (none_found (E None) (reads_vacuum text)) (λ z. subst (λ (o : Option TxnAt). IfSome o (IsViewOf q.catalog (E None) c (rest_of (from_begin h.begun k.entries)))) (sym shut) tt)
+      ) (k.counted.as_read, counted_under catalog (t ∷ ts) [] (begins_sweep (t ∷ ts)) (ap length (sym is_catalog ∙ current) ∙ same_length catalog events) (sweep_begins t ts)) (subst (λ (o : Option TxnAt). IfSome o (IsFilled (E None) c (rest_of (from_begin h.begun k.entries)))) (sym shut) tt) (subst (λ (o : Option TxnAt). IfSome o (IsFitOrReadTxn q.catalog (E None) c (rest_of (from_begin h.begun k.entries)))) (sym shut) tt) (none_found (E None) (reads_vacuum text)) (λ z. subst (λ (o : Option TxnAt). IfSome o (IsViewOf q.catalog (E None) c (rest_of (from_begin h.begun k.entries)))) (sym shut) tt)
 
   abbrev given_now : Table → Statement → TxnAt → Answer
   given_now table st t = given_answer t (gives (plan_of table st) (access_of table st) t)
@@ -653,12 +697,12 @@ module _ (q : Taking) (events : List Event) (states : ℕ → ClientState) (ex :
     passes : too_many t (changes_on table st (overlay (access_of table st) t.seen)) ≡ true → MayPassMost (E (Some (given_now table st t))) c (one (Some (given_now table st t)))
     passes many =
         pass_now c h.begun (E (Some (given_now table st t))) k.entries s.1.begin (one (Some (given_now table st t))) s.1.body st k.small (said_then (given_now table st t)) s.1.since s.1.goes_on on.reads
-        (passes_given (rows_counted_by s.1.body) (records_found_by (E (Some (given_now table st t))) c s.1.body + records_found (calls_of (E (Some (given_now table st t))) c (one (Some (given_now table st t))))) t (access_of table st) table st (filled_found q.catalog events (event.Take c text (Some (given_now table st t))) c s.1.body 0 (records_found (calls_of (E (Some (given_now table st t))) c (one (Some (given_now table st t))))) t.seen (body_open t e) (zero_least (records_found (calls_of (E (Some (given_now table st t))) c (one (Some (given_now table st t)))))) filled_now) many)
+        (passes_given (rows_counted_by s.1.body) (records_found_by (E (Some (given_now table st t))) c s.1.body + records_found (calls_of (E (Some (given_now table st t))) c (one (Some (given_now table st t))))) t (access_of table st) table st (filled_found catalog events (event.Take c text (Some (given_now table st t))) c s.1.body 0 (records_found (calls_of (E (Some (given_now table st t))) c (one (Some (given_now table st t))))) t.seen (body_open t e) (zero_least (records_found (calls_of (E (Some (given_now table st t))) c (one (Some (given_now table st t)))))) filled_now) many)
 
     left_filled : IsFilled (E (Some (given_now table st t))) c (rest_of (from_begin h.begun (k.entries ++ one (Some (given_now table st t)) ∷ []))) (given_left t (gives (plan_of table st) (access_of table st) t))
     left_filled =
         filled_idle (E (Some (given_now table st t))) c h.begun k.entries (one (Some (given_now table st t))) s.1.begin s.1.body (given_left t (gives (plan_of table st) (access_of table st) t)) s.1.since (left_idle t (gives (plan_of table st) (access_of table st) t) idle)
-        (filled_given q.catalog events (event.Take c text (Some (given_now table st t))) c s.1.body (one (Some (given_now table st t))) (plan_of table st) (overlay (access_of table st) t.seen) t 0 (body_open t e) refl finished (zero_least (records_found (calls_of (E (Some (given_now table st t))) c (one (Some (given_now table st t)))))) filled_now)
+        (filled_given catalog events (event.Take c text (Some (given_now table st t))) c s.1.body (one (Some (given_now table st t))) (plan_of table st) (overlay (access_of table st) t.seen) t 0 (body_open t e) refl finished (zero_least (records_found (calls_of (E (Some (given_now table st t))) c (one (Some (given_now table st t)))))) filled_now)
 
     left_fits : IsFitOrReadTxn q.catalog (E (Some (given_now table st t))) c (rest_of (from_begin h.begun (k.entries ++ one (Some (given_now table st t)) ∷ []))) (given_left t (gives (plan_of table st) (access_of table st) t))
     left_fits =
@@ -666,21 +710,22 @@ module _ (q : Taking) (events : List Event) (states : ℕ → ClientState) (ex :
         (given_fits q.catalog (plan_of table st) (access_of table st) listed (own_table table st) is on.named refl on.accepted (literals_read text st on.reads) refl (E (Some (given_now table st t))) c (s.1.body ++ one (Some (given_now table st t)) ∷ []) t (fit_more (given_now table st t) t e))
 
     -- a row that doesn't fit was read by a statement before
-    misfit_caused : (key : Key) → first_unfit table (overlay (access_of table st) t.seen) ≡ Some key → IsBadRecord q.catalog (E (Some (given_now table st t))) c (one (Some (given_now table st t))) key
+    misfit_caused : (key : Key) → first_unfit table (overlay (access_of table st) t.seen) ≡ Some key → IsBadRecord catalog (E (Some (given_now table st t))) c (one (Some (given_now table st t))) key
     misfit_caused key f =
         let m = was_misfit q.catalog (plan_of table st) (access_of table st) listed (own_table table st) (E (Some (given_now table st t))) c (s.1.body ++ one (Some (given_now table st t)) ∷ []) t.seen key (fit_more (given_now table st t) t e) f in
-        inr (meets_now q.catalog c h.begun (E (Some (given_now table st t))) k.entries s.1.begin (one (Some (given_now table st t))) s.1.body st table key k.small (said_then (given_now table st t)) s.1.since s.1.goes_on on.reads on.named m.0 m.1)
+        inr (meets_now catalog q.catalog c h.begun (E (Some (given_now table st t))) k.entries s.1.begin (one (Some (given_now table st t))) s.1.body st table key (asked_now (Some (given_now table st t))) k.small (said_then (given_now table st t)) s.1.since s.1.goes_on on.reads on.named m.0 m.1)
 
-    shows_known : ShowsNext q.catalog (E (Some (given_now table st t))) c k.entries (one (Some (given_now table st t))) (given_now table st t) (holding h (given_left t (gives (plan_of table st) (access_of table st) t)))
+    shows_known : ShowsNext catalog q.catalog (E (Some (given_now table st t))) c k.entries (one (Some (given_now table st t))) (given_now table st t) (holding h (given_left t (gives (plan_of table st) (access_of table st) t)))
     shows_known =
-        let before : SeesOwn q.catalog (E (Some (given_now table st t))) c s.1.body t.seen = sees_then q.catalog c events (event.Take c text (Some (given_now table st t))) k.entries k.answered h.begun s.1.begin s.1.body s.1.since t.seen (sees_open t e) (one (Some (given_now table st t))) in
-        next_given q.catalog (E (Some (given_now table st t))) c h.begun k.entries (one (Some (given_now table st t))) s.1.begin s.1.body (plan_of table st) (access_of table st) t s.1.since k.begun is on.reads on.named refl refl refl (left_idle t (gives (plan_of table st) (access_of table st) t) idle) (sound t e).kept.read
-        (λ key as_read fits. has_before q.catalog (E (Some (given_now table st t))) c s.1.body (one (Some (given_now table st t))) key (row_seen t.seen.read_set t.seen.writes key) (before key as_read fits))
+        let had : SeesOwn q.catalog (E (Some (given_now table st t))) c s.1.body t.seen = sees_then catalog q.catalog c events (event.Take c text (Some (given_now table st t))) k.entries k.answered h.begun s.1.begin s.1.body s.1.since t.seen (sees_open t e) (one (Some (given_now table st t))) in
+        let next = next_given q.catalog (E (Some (given_now table st t))) c h.begun k.entries (one (Some (given_now table st t))) s.1.begin s.1.body (plan_of table st) (access_of table st) t s.1.since k.begun is on.reads on.named refl refl refl (left_idle t (gives (plan_of table st) (access_of table st) t) idle) (sound t e).kept.read
+        (λ key as_read fits. has_before q.catalog (E (Some (given_now table st t))) c s.1.body (one (Some (given_now table st t))) key (row_seen t.seen.read_set t.seen.writes key) (had key as_read fits)) in
+        (λ opened. subst (λ (ts : List Table). GivesOwn ts (E (Some (given_now table st t))) c (rest_of (from_begin (begun_in k.entries) k.entries)) (one (Some (given_now table st t))) (given_now table st t)) (sym (asked_now (Some (given_now table st t)))) (next.0 opened), next.1)
 
     known : Turned (Some (given_answer t (gives (plan_of table st) (access_of table st) t))) → So (Some (given_answer t (gives (plan_of table st) (access_of table st) t))) (holding h (given_left t (gives (plan_of table st) (access_of table st) t)))
     known turned =
         let m = given_middle (plan_of table st) (overlay (access_of table st) t.seen) t in
-        at_once (given_answer t (gives (plan_of table st) (access_of table st) t)) (holding h (given_left t (gives (plan_of table st) (access_of table st) t))) m.agrees (given_caused q.catalog (E (Some (given_answer t (gives (plan_of table st) (access_of table st) t)))) c (one (Some (given_answer t (gives (plan_of table st) (access_of table st) t)))) (plan_of table st) (overlay (access_of table st) t.seen) t on.reads on.named refl open_before misfit_caused passes) turned refl (begun_plain (given_answer t (gives (plan_of table st) (access_of table st) t)) m.undone) k.small
+        at_once (given_answer t (gives (plan_of table st) (access_of table st) t)) (holding h (given_left t (gives (plan_of table st) (access_of table st) t))) m.agrees (given_caused catalog q.catalog (E (Some (given_answer t (gives (plan_of table st) (access_of table st) t)))) c (one (Some (given_answer t (gives (plan_of table st) (access_of table st) t)))) (plan_of table st) (overlay (access_of table st) t.seen) t (asked_now (Some (given_answer t (gives (plan_of table st) (access_of table st) t)))) on.reads on.named refl open_before misfit_caused passes) turned refl (begun_plain (given_answer t (gives (plan_of table st) (access_of table st) t)) m.undone) k.small
         (on_free (Some (given_answer t (gives (plan_of table st) (access_of table st) t))) h.begun (k.entries ++ one (Some (given_answer t (gives (plan_of table st) (access_of table st) t))) ∷ []) None None (Some (given_left t (gives (plan_of table st) (access_of table st) t))) (stands_held (given_answer t (gives (plan_of table st) (access_of table st) t)) None t (given_left t (gives (plan_of table st) (access_of table st) t)) m inner.commit (left_id t (gives (plan_of table st) (access_of table st) t)) (left_idle t (gives (plan_of table st) (access_of table st) t) idle) s.0 s.1 s.2 (left_reads t (gives (plan_of table st) (access_of table st) t)).0 (left_reads t (gives (plan_of table st) (access_of table st) t)).1))
         (known_noted (given_left t (gives (plan_of table st) (access_of table st) t)) (left_reads t (gives (plan_of table st) (access_of table st) t)) (left_idle t (gives (plan_of table st) (access_of table st) t) idle)) left_filled left_fits shows_known
 
@@ -690,7 +735,7 @@ module _ (q : Taking) (events : List Event) (states : ℕ → ClientState) (ex :
           s.0,
           record { begin = s.1.begin; body = s.1.body; since = s.1.since; goes_on = s.1.goes_on; id = s.1.id; client = s.1.client },
           record { text = on.reads; inner = inner; stage = tt; shows = none_yet c events text None },
-          noted_still q.catalog events (event.Take c text None) c h.begun k.entries t s.1 k.answered t.seen s.2,
+          noted_still catalog events (event.Take c text None) c h.begun k.entries t s.1 k.answered t.seen s.2,
         ) (noted_open t e, (inner.commit, refl)) (filled_reading t e) (fit_reading t e) (none_found (E None) (reads_vacuum text)) (sees_reading t e)
 
   memory_middle : IsMiddle answer.NoMemory
@@ -708,7 +753,7 @@ module _ (q : Taking) (events : List Event) (states : ℕ → ClientState) (ex :
       same answer.OpenTransactions (record { undone = refl; agrees = refl }) (λ z. other_no_commit text statement.Vacuum reads (λ y. cc)) (λ z. refl) (λ z. by_turning answer.OpenTransactions (inr (inr (inr (inr (inr (reads, some_open (is_some h.txn) refl e, refl))))))) turned
   answered_once b (NoTable reads e f) turned =
       same (answer.Count 0) (record { undone = refl; agrees = refl }) (λ z. other_no_commit text statement.Vacuum reads (λ y. cc)) (λ z. clash (sym z ∙ none_open e)) (λ z. (statement.Vacuum, reads, sym (ap (count_by removes) (none_yet c events text (Some (answer.Count 0)))))) turned
-  answered_once b (ByCatalog st t r reads names e f) turned = as_refused r (λ z. other_no_commit text st reads (on_table st names).commit) (inr (inr (inr (inl (st, r, reads, opened c ∙ ap is_some e, names, f, refl))))) turned
+  answered_once b (ByCatalog st t r reads names e f) turned = as_refused r (λ z. other_no_commit text st reads (on_table st names).commit) (inr (inr (inr (inl (st, r, reads, opened c ∙ ap is_some e, names, ap (λ (ts : List Table). refusal_of ts st) (sym current) ∙ f, refl))))) turned
   answered_once b (NoMemory no_commit) turned = same answer.NoMemory memory_middle (λ z. no_commit) (λ z. refl) (λ z. tt) turned
 
   rows_known : (result : Option Answer) (d : Client) → d.begun < 2 ^ 64 → Turned result → Step h (Takes q text) result d → So result d

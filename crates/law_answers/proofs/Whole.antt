@@ -10,7 +10,11 @@ use Rattle.law_answers.specs.Types.{Access, Answer, Event, How, Key, Record, Rep
 use Rattle.sdb_model.specs.declared.answer.Answer.TheVariants as answer
 use Rattle.sdb_model.specs.declared.event.Event.TheVariants as event
 use Rattle.sdb_model.specs.Rows.{Name}
-use Rattle.sdb_model.specs.Calls.{calls_of, made_by}
+use Rattle.sdb_model.specs.declared.event.Altered.{Altered}
+use Rattle.sdb_model.specs.declared.event.Altered.TheVariants as altered
+use Rattle.sdb_model.specs.Calls.{calls_of, clock_at, made_by}
+use Rattle.sdb_model.specs.Catalogs.{added, catalog_after}
+use Rattle.sdb_model.proofs.Public.{after_more}
 use Rattle.sdb_model.specs.ReadSet.{read_set_of}
 use Rattle.sdb_model.specs.Sql.{reads_commit}
 use Rattle.sdb_model.specs.Causes.{ConflictsAtCommit, IsCaused, IsCommitOf, IsConflict, IsRejected, before}
@@ -34,9 +38,9 @@ use Rattle.sdb_txn.specs.Read.{ReadAt}
 use Rattle.sdb_txn.specs.declared.txn.Doing.TheVariants as doing
 use Rattle.sdb_txn.specs.Txn.{TxnAt}
 use Rattle.sdb_types.proofs.Public.{all_each as each_any, itself, none_some, or_false, some_is}
-use Rattle.law_answers.specs.Invariant.{AnswersHaveCauses, IsAnswered, CauseInvariant, IsWaiting, Knows, with_stopped}
+use Rattle.law_answers.specs.Invariant.{AddsWithNoneOpen, AnswersHaveCauses, IsAnswered, CauseInvariant, IsCurrent, IsWaiting, Knows, with_stopped}
 use Rattle.law_answers.proofs.Calls.{clock_more}
-use Rattle.law_answers.proofs.Knowing.{knows_still}
+use Rattle.law_answers.proofs.Knowing.{KnowsUnder, knows_still}
 use Rattle.law_answers.specs.Counts.{CommitsAreCounted}
 use Rattle.law_answers.specs.Views.{AllGiveOwn}
 use Rattle.law_answers.specs.Changes.{IsChangedIn, ChangesAtScan, ChangesBy, read_items_of_body}
@@ -80,28 +84,56 @@ call_unmade c d n store q how r a apart = apart_if d c (Some (record { at = n; s
 turned_number : (c d : ℕ) → (d == c) ≡ false → c ≡ d → ⊥
 turned_number c d f e = eqb-false d c f (sym e)
 
----- one client's event
+---- one client
 
-module _ (catalog : List Table) (events : List Event) (e : Event) (states : ℕ → ClientState) (c : ℕ) (d : Client) where
-  -- with one client moved by the event, and the others as they were
-  moved_all : ((x : ℕ) → Knows catalog events x (states x).client) → Knows catalog (events ++ e ∷ []) c d → ((x : ℕ) → (c ≡ x → ⊥) → statements_by x (events ++ e ∷ []) ≡ statements_by x events) → ((x : ℕ) → (c ≡ x → ⊥) → made_by x (1 + length events, e) ≡ None)
-      → (x : ℕ) → Knows catalog (events ++ e ∷ []) x (with_state states c d x).client
-  moved_all all own says makes x = by (x == c) refl
-    where
-      by : (b : Bool) → (x == c) ≡ b → Knows catalog (events ++ e ∷ []) x (if b then record { client = d; stopped = false } else states x).client
-      by true t = subst (λ n. Knows catalog (events ++ e ∷ []) n d) (sym (eqb-true x c t)) own
-      by false f = knows_still catalog x events e (states x).client (says x (turned_number c x f)) (makes x (turned_number c x f)) (all x)
+-- What is known of a client; while it goes on, its open transaction runs under the catalog of the moment.
+abbrev KnowsNow : List Table → List Event → ℕ → ClientState → Type 0
+KnowsNow catalog events c s = (k : Knows catalog events c s.client) × (s.stopped ≡ false → IsCurrent catalog events s.client.txn k.under)
 
-  -- and none stops
-  none_stops : ((x : ℕ) → has_stopped x events ≡ (states x).stopped) → (states c).stopped ≡ false → ((x : ℕ) → stops x e ≡ false) → (x : ℕ) → has_stopped x (events ++ e ∷ []) ≡ (with_state states c d x).stopped
-  none_stops all goes no_stop x = stopped_same x events e (no_stop x) ∙ by (x == c) refl
+known_now : (catalog : List Table) (events : List Event) (now : ℤ) (states : ℕ → ClientState) → CauseInvariant catalog events now states → (c : ℕ) → KnowsNow catalog events c (states c)
+known_now catalog events now states ex c = (ex.each c, ex.current c)
+
+-- an event that adds no column leaves the catalog
+catalog_stays : (catalog : List Table) (events : List Event) (e : Event) → ((ts : List Table) → added ts e ≡ ts) → catalog_after catalog (events ++ e ∷ []) ≡ catalog_after catalog events
+catalog_stays catalog events e quiet = after_more catalog events e ∙ quiet (catalog_after catalog events)
+
+-- and so a transaction that runs under it
+runs_on : (catalog : List Table) (events : List Event) (e : Event) (o : Option TxnAt) (under next : List Table) → catalog_after catalog (events ++ e ∷ []) ≡ catalog_after catalog events → next ≡ under → IsCurrent catalog events o under → IsCurrent catalog (events ++ e ∷ []) o next
+runs_on catalog events e None under next same is runs = tt
+runs_on catalog events e (Some t) under next same is runs = is ∙ runs ∙ sym same
+
+module _ (catalog : List Table) (events : List Event) (e : Event) where
+  -- with an event that isn't of the client
+  still_known : (c : ℕ) (s : ClientState) → statements_by c (events ++ e ∷ []) ≡ statements_by c events → made_by c (1 + length events, e) ≡ None → (catalog_after catalog (events ++ e ∷ []) ≡ catalog_after catalog events) ⊎ (s.stopped ≡ false → s.client.txn ≡ None) → KnowsNow catalog events c s → KnowsNow catalog (events ++ e ∷ []) c s
+  still_known c s says makes quiet k = (z.0, runs quiet)
     where
-      by : (b : Bool) → (x == c) ≡ b → has_stopped x events ≡ (if b then record { client = d; stopped = false } else states x).stopped
-      by true t = all x ∙ ap (λ n. (states n).stopped) (eqb-true x c t) ∙ goes
-      by false f = all x
+      z : KnowsUnder catalog (events ++ e ∷ []) c s.client k.0.under
+      z = knows_still catalog c events e s.client says makes k.0
+
+      runs : (catalog_after catalog (events ++ e ∷ []) ≡ catalog_after catalog events) ⊎ (s.stopped ≡ false → s.client.txn ≡ None) → s.stopped ≡ false → IsCurrent catalog (events ++ e ∷ []) s.client.txn z.0.under
+      runs (inl same) goes = runs_on catalog events e s.client.txn k.0.under z.0.under same z.1 (k.1 goes)
+      runs (inr none) goes = subst (λ (o : Option TxnAt). IsCurrent catalog (events ++ e ∷ []) o z.0.under) (sym (none goes)) tt
+
+  module _ (states : ℕ → ClientState) (c : ℕ) (d : Client) where
+    -- with one client moved by the event, and the others as they were
+    moved_all : ((ts : List Table) → added ts e ≡ ts) → ((x : ℕ) → KnowsNow catalog events x (states x)) → KnowsNow catalog (events ++ e ∷ []) c (record { client = d; stopped = false }) → ((x : ℕ) → (c ≡ x → ⊥) → statements_by x (events ++ e ∷ []) ≡ statements_by x events) → ((x : ℕ) → (c ≡ x → ⊥) → made_by x (1 + length events, e) ≡ None)
+        → (x : ℕ) → KnowsNow catalog (events ++ e ∷ []) x (with_state states c d x)
+    moved_all quiet all own says makes x = by (x == c) refl
+      where
+        by : (b : Bool) → (x == c) ≡ b → KnowsNow catalog (events ++ e ∷ []) x (if b then record { client = d; stopped = false } else states x)
+        by true t = subst (λ n. KnowsNow catalog (events ++ e ∷ []) n (record { client = d; stopped = false })) (sym (eqb-true x c t)) own
+        by false f = still_known x (states x) (says x (turned_number c x f)) (makes x (turned_number c x f)) (inl (catalog_stays catalog events e quiet)) (all x)
+
+    -- and none stops
+    none_stops : ((x : ℕ) → has_stopped x events ≡ (states x).stopped) → (states c).stopped ≡ false → ((x : ℕ) → stops x e ≡ false) → (x : ℕ) → has_stopped x (events ++ e ∷ []) ≡ (with_state states c d x).stopped
+    none_stops all goes no_stop x = stopped_same x events e (no_stop x) ∙ by (x == c) refl
+      where
+        by : (b : Bool) → (x == c) ≡ b → has_stopped x events ≡ (if b then record { client = d; stopped = false } else states x).stopped
+        by true t = all x ∙ ap (λ n. (states n).stopped) (eqb-true x c t) ∙ goes
+        by false f = all x
 
 -- what an open transaction has read and written is what its COMMIT goes by
-going_taken : (catalog : List Table) (fit : Tables → Bool) (es : List Event) (states : ℕ → ClientState) (g : RunInvariant catalog fit es (system_of states) (doing_of states)) (c : ℕ) → IsReady states c → (t : TxnAt) → (states c).client.txn ≡ Some t → IsTaken t.seen
+going_taken : (catalog : List Table) (fit : List Table → Tables → Bool) (es : List Event) (states : ℕ → ClientState) (g : RunInvariant catalog fit es (system_of states) (doing_of states)) (c : ℕ) → IsReady states c → (t : TxnAt) → (states c).client.txn ≡ Some t → IsTaken t.seen
 going_taken catalog fit es states g c ready t some = record { answered = record { reads = ok.1.reads; found = ok.1.found; as_read = ok.1.as_read }; kept = ok.1.kept; rises = each_any (IsScanOk g.past) (λ x. reads_rise x.found ≡ true) t.seen.scans (λ x h. h.0) ok.1.scans }
   where
     idle : t.doing ≡ doing.Idle
@@ -113,15 +145,26 @@ going_taken catalog fit es states g c ready t some = record { answered = record 
     ok : ClientOk g.plan g.past c (Open t.id t.seen)
     ok = subst (ClientOk g.plan g.past c) here (g.system.each c)
 
-pub takes_all : (t : TextExecuted) (events : List Event) → IsGatedTake t → CauseInvariantAtTake t events t.states → CauseInvariantAtTake t (events ++ take_event t ∷ []) (states_after_text t)
-takes_all t events may ex = record {
+pub takes_all : (catalog : List Table) (t : TextExecuted) (events : List Event) → IsGatedTake catalog events t → CauseInvariantAtTake catalog t events t.states → CauseInvariantAtTake catalog t (events ++ take_event t ∷ []) (states_after_text t)
+takes_all catalog t events may ex = record {
   clock = clock_more events (take_event t) ∙ ex.clock;
-  stopped = none_stops t.q.catalog events (take_event t) t.states t.client t.after ex.stopped t.ready.goes_on (λ n. refl);
-  each = moved_all t.q.catalog events (take_event t) t.states t.client t.after ex.each (takes_known t.q events t.states ex t.client t.ready may.gate t.moment t.of_data.is (λ u some. going_taken t.q.catalog may.reached.fit may.reached.events t.states may.reached.running t.client t.ready u some) t.of_data.apart t.text t.numbered t.result t.after t.few (step_of_text t.q t.text (t.states t.client).client t.result t.after t.takes)) (λ n apart. take_apart n t.client events t.text t.result apart) (λ n apart. refl);
+  stopped = none_stops catalog events (take_event t) t.states t.client t.after ex.stopped t.ready.goes_on (λ n. refl);
+  each = λ x. (all x).0;
+  current = λ x. (all x).1;
 }
+  where
+    own : KnowsUnder catalog (events ++ take_event t ∷ []) t.client t.after t.q.catalog
+    own = takes_known catalog t.q events may.current t.states ex t.client t.ready may.gate t.moment t.of_data.is (λ u some. going_taken catalog may.reached.fit may.reached.events t.states may.reached.running t.client t.ready u some) t.of_data.apart t.text t.numbered t.result t.after t.few (step_of_text t.q t.text (t.states t.client).client t.result t.after t.takes)
+
+    runs : (o : Option TxnAt) → IsCurrent catalog (events ++ take_event t ∷ []) o own.0.under
+    runs None = tt
+    runs (Some u) = own.1 ∙ may.current ∙ sym (catalog_stays catalog events (take_event t) (λ ts. refl))
+
+    all : (x : ℕ) → KnowsNow catalog (events ++ take_event t ∷ []) x (states_after_text t x)
+    all = moved_all catalog events (take_event t) t.states t.client t.after (λ ts. refl) (known_now catalog events t.q.now t.states ex) (own.0, λ goes. runs t.after.txn) (λ n apart. take_apart n t.client events t.text t.result apart) (λ n apart. refl)
 
 -- what a client that reads has read says what is noted, and it had read what it wrote
-pub invariant_serial : {catalog : List Table} {fit : Tables → Bool} {es : List Event} (states : ℕ → ClientState) (g : RunInvariant catalog fit es (system_of states) (doing_of states)) (c : ℕ) → (states c).stopped ≡ false → (states c).client.vacuum ≡ None → {t : TxnAt} {a : Access} {x : ReadAt} → (states c).client.txn ≡ Some t → t.doing ≡ doing.Read a x → IsTold t.seen × WereRead t.seen.read_set t.seen.writes
+pub invariant_serial : {catalog : List Table} {fit : List Table → Tables → Bool} {es : List Event} (states : ℕ → ClientState) (g : RunInvariant catalog fit es (system_of states) (doing_of states)) (c : ℕ) → (states c).stopped ≡ false → (states c).client.vacuum ≡ None → {t : TxnAt} {a : Access} {x : ReadAt} → (states c).client.txn ≡ Some t → t.doing ≡ doing.Read a x → IsTold t.seen × WereRead t.seen.read_set t.seen.writes
 invariant_serial states g c goes_on free {t} {a} {x} some reads = (record { reads = ok.1.reads; found = ok.1.found; as_read = ok.1.as_read }, ok.1.kept.read)
   where
     here : (system_of states).clients c ≡ Reading t.id t.seen a (abstract_read x.stage)
@@ -130,21 +173,42 @@ invariant_serial states g c goes_on free {t} {a} {x} some reads = (record { read
     ok : ClientOk g.plan g.past c (Reading t.id t.seen a (abstract_read x.stage))
     ok = subst (ClientOk g.plan g.past c) here (g.system.each c)
 
-pub replies_all : (r : CallReplied) (events : List Event) → IsStoredReply r → CauseInvariantAtReply r events r.states → CauseInvariantAtReply r (events ++ reply_event r ∷ []) (states_after_reply r)
-replies_all r events may ex = record {
+pub replies_all : (catalog : List Table) (r : CallReplied) (events : List Event) → IsStoredReply catalog events r → CauseInvariantAtReply catalog r events r.states → CauseInvariantAtReply catalog r (events ++ reply_event r ∷ []) (states_after_reply r)
+replies_all catalog r events may ex = record {
   clock = clock_more events (reply_event r) ∙ ex.clock;
-  stopped = none_stops r.catalog events (reply_event r) r.states r.call.client r.after ex.stopped r.called.waiting.goes_on (λ n. refl);
-  each = moved_all r.catalog events (reply_event r) r.states r.call.client r.after ex.each (replies_known r.catalog events r.states r.call ex r.called may.about r.of_data.apart (λ free t a x some reads. invariant_serial r.states may.reached.running r.call.client r.called.waiting.goes_on free some reads) r.of_data.is may.stored r.result r.after (step_of_reply (r.states r.call.client).client r.call.request r.call.reply r.call.now r.called.waiting.pending r.result r.after r.answered)) (λ n other. call_apart n r.call.client events r.call.store r.call.request r.call.how r.call.reply r.result other) (λ n other. call_unmade n r.call.client (1 + length events) r.call.store r.call.request r.call.how r.call.reply r.result other);
+  stopped = none_stops catalog events (reply_event r) r.states r.call.client r.after ex.stopped r.called.waiting.goes_on (λ n. refl);
+  each = λ x. (all x).0;
+  current = λ x. (all x).1;
 }
+  where
+    own : (k : Knows catalog (events ++ reply_event r ∷ []) r.call.client r.after) × IfSome r.after.txn (λ t. k.under ≡ r.catalog)
+    own = replies_known catalog r.catalog events may.current r.states r.call ex r.called may.about r.of_data.apart (λ free t a x some reads. invariant_serial r.states may.reached.running r.call.client r.called.waiting.goes_on free some reads) r.of_data.is may.stored r.result r.after (step_of_reply (r.states r.call.client).client r.call.request r.call.reply r.call.now r.called.waiting.pending r.result r.after r.answered)
+
+    runs : (o : Option TxnAt) → IfSome o (λ t. own.0.under ≡ r.catalog) → IsCurrent catalog (events ++ reply_event r ∷ []) o own.0.under
+    runs None h = tt
+    runs (Some t) h = h ∙ may.current ∙ sym (catalog_stays catalog events (reply_event r) (λ ts. refl))
+
+    all : (x : ℕ) → KnowsNow catalog (events ++ reply_event r ∷ []) x (states_after_reply r x)
+    all = moved_all catalog events (reply_event r) r.states r.call.client r.after (λ ts. refl) (known_now catalog events r.call.now r.states ex) (own.0, λ goes. runs r.after.txn own.1) (λ n other. call_apart n r.call.client events r.call.store r.call.request r.call.how r.call.reply r.result other) (λ n other. call_unmade n r.call.client (1 + length events) r.call.store r.call.request r.call.how r.call.reply r.result other)
 
 ---- the other events
 
 -- with each client as it was
-stays_all : (catalog : List Table) (events : List Event) (e : Event) (states : ℕ → ClientState) → ((c : ℕ) → statements_by c (events ++ e ∷ []) ≡ statements_by c events) → ((c : ℕ) → made_by c (1 + length events, e) ≡ None) → ((c : ℕ) → Knows catalog events c (states c).client) → (c : ℕ) → Knows catalog (events ++ e ∷ []) c (states c).client
-stays_all catalog events e states says makes all c = knows_still catalog c events e (states c).client (says c) (makes c) (all c)
+module _ (catalog : List Table) (events : List Event) (e : Event) (now next : ℤ) (states : ℕ → ClientState) (ex : CauseInvariant catalog events now states) where
+  pub stays_all : clock_at (events ++ e ∷ []) (length (events ++ e ∷ [])) ≡ next → ((c : ℕ) → stops c e ≡ false) → ((c : ℕ) → statements_by c (events ++ e ∷ []) ≡ statements_by c events) → ((c : ℕ) → made_by c (1 + length events, e) ≡ None)
+      → ((c : ℕ) → (catalog_after catalog (events ++ e ∷ []) ≡ catalog_after catalog events) ⊎ ((states c).stopped ≡ false → (states c).client.txn ≡ None)) → CauseInvariant catalog (events ++ e ∷ []) next states
+  stays_all clock stops says makes quiet = record {
+    clock = clock;
+    stopped = λ c. stopped_same c events e (stops c) ∙ ex.stopped c;
+    each = λ c. (all c).0;
+    current = λ c. (all c).1;
+  }
+    where
+      all : (c : ℕ) → KnowsNow catalog (events ++ e ∷ []) c (states c)
+      all c = still_known catalog events e c (states c) (says c) (makes c) (quiet c) (known_now catalog events now states ex c)
 
 pub stops_all : (catalog : List Table) (events : List Event) (now : ℤ) (states : ℕ → ClientState) (c : ℕ) → CauseInvariant catalog events now states → CauseInvariant catalog (events ++ event.Stop c ∷ []) now (with_stopped states c)
-stops_all catalog events now states c ex = record { clock = clock_more events (event.Stop c) ∙ ex.clock; stopped = stopped; each = each }
+stops_all catalog events now states c ex = record { clock = clock_more events (event.Stop c) ∙ ex.clock; stopped = stopped; each = λ x. (all x).0; current = λ x. (all x).1 }
   where
     stopped : (x : ℕ) → has_stopped x (events ++ event.Stop c ∷ []) ≡ (with_stopped states c x).stopped
     stopped x = stopped_more x events (event.Stop c) ∙ by (x == c) refl
@@ -157,45 +221,59 @@ stops_all catalog events now states c ex = record { clock = clock_more events (e
         by true t = ap (λ n. has_stopped x events || (c == n)) (eqb-true x c t) ∙ ap (λ b. has_stopped x events || b) (itself c) ∙ or_true (has_stopped x events)
         by false f = ap (λ b. has_stopped x events || b) (ne_eqb c x (turned_number c x f)) ∙ or_false (has_stopped x events) ∙ ex.stopped x
 
-    each : (x : ℕ) → Knows catalog (events ++ event.Stop c ∷ []) x (with_stopped states c x).client
-    each x = by (x == c) refl
-      where
-        still : (n : ℕ) → Knows catalog (events ++ event.Stop c ∷ []) n (states n).client
-        still n = knows_still catalog n events (event.Stop c) (states n).client (executed_more n events (event.Stop c)) refl (ex.each n)
+    still : (n : ℕ) → KnowsNow catalog (events ++ event.Stop c ∷ []) n (states n)
+    still n = still_known catalog events (event.Stop c) n (states n) (executed_more n events (event.Stop c)) refl (inl (catalog_stays catalog events (event.Stop c) (λ ts. refl))) (known_now catalog events now states ex n)
 
-        by : (b : Bool) → (x == c) ≡ b → Knows catalog (events ++ event.Stop c ∷ []) x (if b then record { client = (states c).client; stopped = true } else states x).client
-        by true t = subst (λ n. Knows catalog (events ++ event.Stop c ∷ []) n (states c).client) (sym (eqb-true x c t)) (still c)
+    clash_goes : {A : Type 0} → ◌≡◌ {A = Bool} true false → A
+    clash_goes e = absurd (cc)
+
+    all : (x : ℕ) → KnowsNow catalog (events ++ event.Stop c ∷ []) x (with_stopped states c x)
+    all x = by (x == c) refl
+      where
+        by : (b : Bool) → (x == c) ≡ b → KnowsNow catalog (events ++ event.Stop c ∷ []) x (if b then record { client = (states c).client; stopped = true } else states x)
+        by true t = subst (λ n. KnowsNow catalog (events ++ event.Stop c ∷ []) n (record { client = (states c).client; stopped = true })) (sym (eqb-true x c t)) ((still c).0, λ goes. clash_goes goes)
         by false f = still x
 
 pub clock_all : (catalog : List Table) (events : List Event) (now moment : ℤ) (states : ℕ → ClientState) → CauseInvariant catalog events now states → CauseInvariant catalog (events ++ event.Clock moment ∷ []) moment states
-clock_all catalog events now moment states ex = record {
-  clock = clock_more events (event.Clock moment);
-  stopped = λ x. stopped_same x events (event.Clock moment) refl ∙ ex.stopped x;
-  each = stays_all catalog events (event.Clock moment) states (λ c. executed_more c events (event.Clock moment)) (λ c. refl) ex.each;
-}
+clock_all catalog events now moment states ex =
+    stays_all catalog events (event.Clock moment) now moment states ex (clock_more events (event.Clock moment)) (λ c. refl) (λ c. executed_more c events (event.Clock moment)) (λ c. refl) (λ c. inl (catalog_stays catalog events (event.Clock moment) (λ ts. refl)))
 
 pub idles_all : (catalog : List Table) (events : List Event) (now : ℤ) (states : ℕ → ClientState) (c : ℕ) → CauseInvariant catalog events now states → CauseInvariant catalog (events ++ event.Idle c ∷ []) now states
-idles_all catalog events now states c ex = record {
-  clock = clock_more events (event.Idle c) ∙ ex.clock;
-  stopped = λ x. stopped_same x events (event.Idle c) refl ∙ ex.stopped x;
-  each = stays_all catalog events (event.Idle c) states (λ d. executed_more d events (event.Idle c)) (λ d. refl) ex.each;
-}
+idles_all catalog events now states c ex =
+    stays_all catalog events (event.Idle c) now now states ex (clock_more events (event.Idle c) ∙ ex.clock) (λ d. refl) (λ d. executed_more d events (event.Idle c)) (λ d. refl) (λ d. inl (catalog_stays catalog events (event.Idle c) (λ ts. refl)))
 
 pub lands_all : {catalog : List Table} {events : List Event} {now : ℤ} {states : ℕ → ClientState} (number : ℕ) (store : Name) (q : Request) (how : How) (r : Reply) → CauseInvariant catalog events now states → CauseInvariant catalog (events ++ event.Land number store q how r ∷ []) now states
-lands_all {catalog} {events} {now} {states} number store q how r ex = record {
-  clock = clock_more events landed ∙ ex.clock;
-  stopped = λ x. stopped_same x events landed refl ∙ ex.stopped x;
-  each = stays_all catalog events landed states (λ c. executed_more c events landed) (λ c. refl) ex.each;
-}
+lands_all {catalog} {events} {now} {states} number store q how r ex =
+    stays_all catalog events landed now now states ex (clock_more events landed ∙ ex.clock) (λ c. refl) (λ c. executed_more c events landed) (λ c. refl) (λ c. inl (catalog_stays catalog events landed (λ ts. refl)))
   where
     landed : Event
     landed = event.Land number store q how r
+
+-- A column is added where no client that goes on has a transaction open, or it isn't.
+pub alters_all : (catalog : List Table) (events : List Event) (now : ℤ) (states : ℕ → ClientState) (e : Event) → AddsWithNoneOpen states e → CauseInvariant catalog events now states → CauseInvariant catalog (events ++ e ∷ []) now states
+alters_all catalog events now states (event.Alter table column kind a) adds ex =
+    stays_all catalog events altering now now states ex (clock_more events altering ∙ ex.clock) (λ c. refl) (λ c. executed_more c events altering) (λ c. refl) (by a adds)
+  where
+    altering : Event
+    altering = event.Alter table column kind a
+
+    by : (b : Altered) → AddsWithNoneOpen states (event.Alter table column kind b) → (c : ℕ) → (catalog_after catalog (events ++ event.Alter table column kind b ∷ []) ≡ catalog_after catalog events) ⊎ ((states c).stopped ≡ false → (states c).client.txn ≡ None)
+    by altered.Done none c = inr (none c)
+    by altered.Open none c = inl (catalog_stays catalog events (event.Alter table column kind altered.Open) (λ ts. refl))
+    by (altered.Refused k) none c = inl (catalog_stays catalog events (event.Alter table column kind (altered.Refused k)) (λ ts. refl))
+alters_all catalog events now states (event.Clock moment) adds ex = absurd adds
+alters_all catalog events now states (event.Idle d) adds ex = absurd adds
+alters_all catalog events now states (event.Take d text a) adds ex = absurd adds
+alters_all catalog events now states (event.Call d store ask how r a) adds ex = absurd adds
+alters_all catalog events now states (event.Stop d) adds ex = absurd adds
+alters_all catalog events now states (event.Land number store ask how r) adds ex = absurd adds
 
 pub starts_all : (catalog : List Table) (states : ℕ → ClientState) → ((c : ℕ) → states c ≡ record { client = nothing_done c; stopped = false }) → CauseInvariant catalog [] (pos 0) states
 starts_all catalog states fresh = record {
   clock = refl;
   stopped = λ c. sym (ap (λ (h : ClientState). h.stopped) (fresh c));
-  each = λ c. subst (λ (h : ClientState). Knows catalog [] c h.client) (sym (fresh c)) (nothing c);
+  each = λ c. (all c).0;
+  current = λ c. (all c).1;
 }
   where
     positive : 0 < 2 ^ 64
@@ -212,7 +290,10 @@ starts_all catalog states fresh = record {
     none_told c n begin body s tail a since goes is = absurd (let e : [] ≡ begin ∷ (body ++ s ∷ tail) = sym (none_begins n) ∙ since in cc)
 
     nothing : (c : ℕ) → Knows catalog [] c (nothing_done c)
-    nothing c = record { entries = []; waiting = None; same = refl; answered = tt; waits = tt; moved = tt; number = refl; begun = refl; small = positive; agrees = (refl, refl); counted = record { answered = tt; commits = no_commits c; paired = tt; as_read = tt; waits = tt }; filled = tt; fits = tt; stored = tt; rolled = record { answered = tt; waits = tt }; shows = record { given_own = none_told c; sees_own = tt } }
+    nothing c = record { entries = []; waiting = None; under = catalog; asked = tt; same = refl; answered = tt; waits = tt; moved = tt; number = refl; begun = refl; small = positive; agrees = (refl, refl); counted = record { answered = tt; commits = no_commits c; paired = tt; as_read = tt; waits = tt }; filled = tt; fits = tt; stored = tt; rolled = record { answered = tt; waits = tt }; shows = record { given_own = none_told c; sees_own = tt } }
+
+    all : (c : ℕ) → KnowsNow catalog [] c (states c)
+    all c = subst (λ (h : ClientState). KnowsNow catalog [] c h) (sym (fresh c)) (nothing c, λ goes. tt)
 
 ---- what follows
 

@@ -6,7 +6,7 @@ use Rattle.sdb_record.specs.Meta.{is_unresolved}
 use Rattle.sdb_record.specs.Rolls.{IsWrite}
 use Rattle.sdb_model.specs.declared.answer.Answer.TheVariants as answer
 use Rattle.sdb_model.specs.Calls.{StoreCall, calls_of}
-use Rattle.sdb_model.specs.Causes.{is_open_after}
+use Rattle.sdb_model.specs.Follows.{is_open_after}
 use Rattle.sdb_model.specs.Counted.{IsReadCounted, IsVacuumCounted, is_checked_get, is_scan, is_seen, prepares_in, removals_in, unresolved_in}
 use Rattle.sdb_model.specs.ReadSet.{KeyRead, ReadItem, SpanRead, read_set_of}
 use Rattle.sdb_model.specs.Sql.{reads_commit, reads_vacuum}

@@ -4,9 +4,12 @@ use Rattle.std.specs.Prelude.{◌≡◌, ◌≢◌, ◌⊎◌, ◌<◌, ◌≤�
 use Rattle.std.specs.List.{AllByRecursion}
 use Rattle.law_answers.specs.Types.{Answer, Doing, Event, Gate, Table}
 use Rattle.sdb_model.specs.declared.answer.Answer.TheVariants as answer
+use Rattle.sdb_model.specs.declared.event.Altered.TheVariants as altered
+use Rattle.sdb_model.specs.declared.event.Event.TheVariants as event
 use Rattle.sdb_model.specs.Calls.{calls_by, calls_of, clock_at}
-use Rattle.sdb_model.specs.Causes.{AreCaused, IsCaused, IsRejected, before, is_open, is_open_after}
-use Rattle.sdb_model.specs.Follows.{has_stopped}
+use Rattle.sdb_model.specs.Catalogs.{catalog_after}
+use Rattle.sdb_model.specs.Causes.{AreCaused, IsCaused, IsRejected, before}
+use Rattle.sdb_model.specs.Follows.{has_stopped, is_open, is_open_after}
 use Rattle.sdb_model.specs.Sql.{Reads, reads_begin, reads_commit, reads_vacuum}
 use Rattle.sdb_model.specs.Transactions.{Executed, begins, ends, from_begin, id_of, is_conflict, rest_of, statements_by}
 use Rattle.sdb_exec.specs.Plans.{Planned}
@@ -115,10 +118,13 @@ abbrev pub ClientByHistory : List Event → ℕ → ℕ → List Executed → Op
 ClientByHistory events c n answered w p o None = DoingByHistory events c n answered w p o
 ClientByHistory events c n answered w p o (Some v) = IsInVacuum events c answered w o v
 
--- What holds of a client: its statements with their answers, and its state.
+-- What holds of a client: its statements with their answers, and its state. Its open transaction runs under a catalog, and so does the
+-- statement that waits.
 pub record Knows (catalog : List Table) (events : List Event) (c : ℕ) (h : ClientAt) : Type 0 where
   pub entries : List Executed
   pub waiting : Option Executed
+  pub under : List Table
+  pub asked : IfSome waiting (λ w. catalog_after catalog (before w events) ≡ under)
   pub same : statements_by c events ≡ entries ++ waiting_of waiting
   pub answered : AllByRecursion (IsAnswered catalog events c) entries
   pub waits : IfSome waiting (IsWaiting catalog events c (is_some h.vacuum))
@@ -129,18 +135,31 @@ pub record Knows (catalog : List Table) (events : List Event) (c : ℕ) (h : Cli
   pub agrees : ClientByHistory events c h.begun entries waiting h.plan h.txn h.vacuum
   pub counted : CountsBy catalog events c entries waiting h
   pub filled : IfSome h.txn (IsFilled events c (rest_of (from_begin h.begun entries)))
-  pub fits : IfSome h.txn (IsFitOrReadTxn catalog events c (rest_of (from_begin h.begun entries)))
+  pub fits : IfSome h.txn (IsFitOrReadTxn under events c (rest_of (from_begin h.begun entries)))
   pub stored : AreStoredReplies (calls_by events c)
   pub rolled : RollsBy events c entries waiting h
-  pub shows : ViewBy catalog events c entries h
+  pub shows : ViewBy catalog under events c entries h
 
 ---- all clients
 
--- The cause invariant: of the events so far, the moment that the clock shows, and the clients.
+-- A client's open transaction runs under the catalog as it is after the events so far.
+abbrev pub IsCurrent : List Table → List Event → Option TxnAt → List Table → Type 0
+IsCurrent catalog events o under = IfSome o (λ t. under ≡ catalog_after catalog events)
+
+-- The cause invariant: of the events so far, the moment that the clock shows, and the clients, of which those that go on run under the
+-- catalog of the moment.
 pub record CauseInvariant (catalog : List Table) (events : List Event) (now : ℤ) (states : ℕ → ClientState) : Type 0 where
   pub clock : clock_at events (length events) ≡ now
   pub stopped : (c : ℕ) → has_stopped c events ≡ (states c).stopped
   pub each : (c : ℕ) → Knows catalog events c (states c).client
+  pub current : (c : ℕ) → (states c).stopped ≡ false → IsCurrent catalog events (states c).client.txn (each c).under
+
+-- A column is to be added to a table: it is added while no client that hasn't stopped has a transaction open, or it isn't.
+abbrev pub AddsWithNoneOpen : (ℕ → ClientState) → Event → Type 0
+AddsWithNoneOpen states (event.Alter table column kind altered.Done) = (c : ℕ) → (states c).stopped ≡ false → (states c).client.txn ≡ None
+AddsWithNoneOpen states (event.Alter table column kind altered.Open) = Unit {0}
+AddsWithNoneOpen states (event.Alter table column kind (altered.Refused k)) = Unit {0}
+AddsWithNoneOpen states e = ⊥
 
 -- with one client stopped
 abbrev pub with_stopped : (ℕ → ClientState) → ℕ → ℕ → ClientState

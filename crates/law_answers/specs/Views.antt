@@ -1,9 +1,11 @@
--- Which rows a transaction has, by what its statements so far observed, and by what they made of it.
+-- Which rows a transaction has, by what its statements so far observed, and by what they made of it, under the catalog with which it runs.
 use Rattle.std.specs.Prelude.{◌≡◌, ℕ, true, false, List, [], ◌∷◌, ◌++◌, map, filter, fold, Option, Some, IfSome, Contains}
 use Rattle.std.specs.List.{AllByRecursion}
 use Rattle.law_answers.specs.Types.{Answer, Doing, Event, Image, Key, Pair, Select, Statement, Table, TxId, Value}
 use Rattle.sdb_model.specs.declared.answer.Answer.TheVariants as answer
 use Rattle.sdb_model.specs.declared.statement.Statement.TheVariants as statement
+use Rattle.sdb_model.specs.Catalogs.{catalog_after}
+use Rattle.sdb_model.specs.Causes.{before}
 use Rattle.sdb_model.specs.Exec.{find_table, projected}
 use Rattle.sdb_model.specs.Explained.{IsTableKey}
 use Rattle.sdb_model.specs.ReadSet.{has_read}
@@ -77,7 +79,7 @@ GivesOwn catalog events c body s a = Unit {0}
 
 -- This holds of each statement of each transaction, up to the one that ended it.
 abbrev pub AllGiveOwn : List Table → List Event → ℕ → List Executed → Type 0
-AllGiveOwn catalog events c answered = (n : ℕ) (begin : Executed) (body : List Executed) (s : Executed) (tail : List Executed) (a : Answer) → from_begin n answered ≡ begin ∷ (body ++ s ∷ tail) → AllByRecursion (λ x. ends x ≡ false) body → s.answer ≡ Some a → GivesOwn catalog events c body s a
+AllGiveOwn catalog events c answered = (n : ℕ) (begin : Executed) (body : List Executed) (s : Executed) (tail : List Executed) (a : Answer) → from_begin n answered ≡ begin ∷ (body ++ s ∷ tail) → AllByRecursion (λ x. ends x ≡ false) body → s.answer ≡ Some a → GivesOwn (catalog_after catalog (before s events)) events c body s a
 
 ---- an open transaction
 
@@ -93,10 +95,10 @@ SeesOwnIn catalog events c body s d = SeesOwn catalog events c body s
 abbrev pub IsViewOf : List Table → List Event → ℕ → List Executed → TxnAt → Type 0
 IsViewOf catalog events c body t = SeesOwnIn catalog events c body t.seen t.doing
 
--- What a client's statements were answered, and what its open transaction sees.
-pub record ViewBy (catalog : List Table) (events : List Event) (c : ℕ) (answered : List Executed) (h : ClientAt) : Type 0 where
+-- What a client's statements were answered, and what its open transaction sees, which runs under that catalog.
+pub record ViewBy (catalog under : List Table) (events : List Event) (c : ℕ) (answered : List Executed) (h : ClientAt) : Type 0 where
   pub given_own : AllGiveOwn catalog events c answered
-  pub sees_own : IfSome h.txn (IsViewOf catalog events c (rest_of (from_begin h.begun answered)))
+  pub sees_own : IfSome h.txn (IsViewOf under events c (rest_of (from_begin h.begun answered)))
 
 ---- what follows of the events
 

@@ -158,6 +158,7 @@ module _ (id : TxId) where
   made_prepares c k (event.Clock now) p made is = none_some p made
   made_prepares c k (event.Idle d) p made is = none_some p made
   made_prepares c k (event.Land n store q how r) p made is = none_some p made
+  made_prepares c k (event.Alter table column kind altered) p made is = none_some p made
   made_prepares c k (event.Call d store q how r a) p made is = by (d == c) made
     where
       here : (q : Request) (how : How) (r : Reply) → (prepares id q ≡ true) × (how ≡ Seen) × (r ≡ reply.Applied) → is_prepared_by id (event.Call d store q how r a) ≡ true
@@ -224,6 +225,7 @@ module _ (id : TxId) where
       now (event.Clock moment) is same = clash (sym is)
       now (event.Idle d) is same = clash (sym is)
       now (event.Land n store q how r) is same = clash (sym is)
+      now (event.Alter table column kind altered) is same = clash (sym is)
 
       by_last : (b : Bool) → is_prepared_by id e ≡ b → (if b then Some k else o) ≡ Some n → (o ≡ Some n) ⊎ LastCall k (e ∷ es) n
       by_last true is same = inr (now e is (some_is k n same))

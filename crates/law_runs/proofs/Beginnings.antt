@@ -22,17 +22,17 @@ use Rattle.law_runs.proofs.Steps.{execution_about, execution_linked}
 use Rattle.law_runs.specs.Traces.{InvariantOnOne}
 
 -- the first steps of a path
-record IsFront (script : Script) (s : State) (es : List Event) : Type 0 where
+record IsFront (script : Script) (past : List Event) (s : State) (es : List Event) : Type 0 where
   last : State
-  path : IsPath script s es last
+  path : IsPath script past s es last
 
-front_of : (script : Script) (es more : List Event) (s t : State) → IsPath script s (es ++ more) t → IsFront script s es
-front_of script [] more s t h = record { last = s; path = refl }
-front_of script (e ∷ es) more s t h = let f = front_of script es more h.0 t h.2 in record { last = f.last; path = (h.0, h.1, f.path) }
+front_of : (script : Script) (past es more : List Event) (s t : State) → IsPath script past s (es ++ more) t → IsFront script past s es
+front_of script past [] more s t h = record { last = s; path = refl }
+front_of script past (e ∷ es) more s t h = let f = front_of script (past ++ e ∷ []) es more h.0 t h.2 in record { last = f.last; path = (h.0, h.1, f.path) }
 
 pub begins_execution : (script : Script) (events : List Event) (n : ℕ) → IsExecution script events → IsExecution script (take n events)
 begins_execution script events n x =
-    let f = front_of script (take n events) (drop n events) x.first x.last (subst (λ (es : List Event). IsPath script x.first es x.last) (half n events) x.path) in
+    let f = front_of script [] (take n events) (drop n events) x.first x.last (subst (λ (es : List Event). IsPath script [] x.first es x.last) (half n events) x.path) in
     record { first = x.first; last = f.last; initial = x.initial; path = f.path }
 
 -- what the stores held after the first events
@@ -52,7 +52,7 @@ no_coordinator script p = by (find_table script.catalog coordinator_table) refl
 
 -- the run invariant of an execution's events, as made on one store
 abbrev pub invariant_on_one : (script : Script) (events : List Event) → IsPlayable script → IsExecution script events → InvariantOnOne script.catalog
-invariant_on_one script events playable x = record { name = one_name; fit = tables_are_well_typed script.catalog; events = events; sys = system_of (states_of x.last.client_slots); doing = doing_of (states_of x.last.client_slots); running = execution_linked script events playable x }
+invariant_on_one script events playable x = record { name = one_name; fit = tables_are_well_typed; events = events; sys = system_of (states_of x.last.client_slots); doing = doing_of (states_of x.last.client_slots); running = execution_linked script events playable x }
 
 -- What there is after so many events is explained by them.
 pub explained_at : (script : Script) (events : List Event) (opening closing : List StoreContents) (moments : List (List StoreContents)) (n : ℕ) → IsPlayable script → IsExecution script events → IsTrace script.places events opening moments closing → HoldAs script.catalog script.places opening empty → Explained script.catalog script.places (take n events) opening (take n moments)

@@ -92,7 +92,7 @@ module _ (w : WorldAt) (h : Holds w) (so : CallsAreOfStatements w.events) where
       let x = pends_waits w.script.catalog w.events (suc t.place) t.client_slot.client q k t.pending in
       calls w.script.catalog w.events (suc t.place) t.client_slot.client store q how r a k x.0 x.1 m (so (suc t.place) m))
 
-  step_of : (e : Event) (u : State) → IsStepFrom w.script (state_of w) e u → CallsAreOfStatements (w.events ++ e ∷ [])
+  step_of : (e : Event) (u : State) → IsStepFrom w.script w.events (state_of w) e u → CallsAreOfStatements (w.events ++ e ∷ [])
   step_of (event.Take c text a) u t d m has = by_nat c d
       (λ same. keeps w.script.catalog w.events (event.Take c text a) d (states_of w.client_slots d).client m (h.caused.each d) refl
       (λ s k. subst (λ (n : ℕ). Contains (statements_by n (w.events ++ event.Take c text a ∷ [])) s) same (subst (λ (ss : List Executed). Contains ss s) (sym (take_executed c w.events text a)) (Contains-append_left (statements_by c w.events) (executed_of_take w.events text a ∷ []) s (subst (λ (n : ℕ). Contains (statements_by n w.events) s) (sym same) k)))) (so d m) has)
@@ -103,9 +103,10 @@ module _ (w : WorldAt) (h : Holds w) (so : CallsAreOfStatements w.events) where
   step_of (event.Stop c) u t d m has = others (event.Stop c) d m refl (executed_more d w.events (event.Stop c)) has
   step_of (event.Clock n) u t d m has = others (event.Clock n) d m refl (executed_more d w.events (event.Clock n)) has
   step_of (event.Idle c) u t d m has = others (event.Idle c) d m refl (executed_more d w.events (event.Idle c)) has
+  step_of (event.Alter table column kind altered) u t d m has = others (event.Alter table column kind altered) d m refl (executed_more d w.events (event.Alter table column kind altered)) has
   step_of (event.Land n store q how r) u t d m has = others (event.Land n store q how r) d m refl (executed_more d w.events (event.Land n store q how r)) has
 
-path_of : (es : List Event) (w : WorldAt) (t : State) → IsPath w.script (state_of w) es t → Holds w → CallsAreOfStatements w.events → CallsAreOfStatements (w.events ++ es)
+path_of : (es : List Event) (w : WorldAt) (t : State) → IsPath w.script w.events (state_of w) es t → Holds w → CallsAreOfStatements w.events → CallsAreOfStatements (w.events ++ es)
 path_of [] w t h k so = subst CallsAreOfStatements (sym (append-nil w.events)) so
 path_of (e ∷ es) w t h k so = subst CallsAreOfStatements (append_assoc w.events (e ∷ []) es) (path_of es (led w e h.0) t h.2 (step_holds w e h.0 h.1 k) (step_of w k so e h.0 h.1))
 

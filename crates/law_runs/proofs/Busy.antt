@@ -3,6 +3,7 @@ use Rattle.std.proofs.Common.{◌≡◌, inl, inr, ℕ, ℤ, false, List, [], �
 use Rattle.std.specs.Prelude.{is_some}
 use Rattle.law_runs.specs.Types.{Answer, Event, How, Key, Outcome, Progress, Reply, Request, Script, Table, TxId, VacuumStep}
 use Rattle.sdb_types.proofs.Public.{by_test}
+use Rattle.sdb_model.specs.Catalogs.{catalog_after}
 use Rattle.sdb_model.specs.declared.answer.Answer.TheVariants as answer
 use Rattle.sdb_model.specs.declared.event.Event.TheVariants as event
 use Rattle.sdb_model.specs.Rows.{Name}
@@ -77,9 +78,9 @@ pub busy_kept : AreKept (λ catalog. IsBusyOfRead) (λ catalog. AnyWaits)
 busy_kept = record {
   answered = λ catalog events e c s past h. h;
   waiting = λ catalog events e c s h still t. tt;
-  takes = λ w u c text a t h. accepted a w.events c text t.client (λ key id at e. taken_busy key id at (record { catalog = w.script.catalog; now = w.clock; gate = t.gate; fresh = next_id t.client_slot.client }) text t.client_slot.client t.client a t.takes e);
-  calls = λ w u c store q how r a t h k x waiting waits so. replied a w.events c store q how r x t.client
-      (λ key id at e. called key id at w.events c t.client_slot.client k x waits q r w.clock a t.client e (call_of w.script.catalog w.events c t.client_slot.client k x waiting q r w.clock a t.client t.pending (h.world.each t.place t.client_slot t.at).fitted t.takes));
+  takes = λ w u c text a t h. accepted a w.events c text t.client (λ key id at e. taken_busy key id at (record { catalog = catalog_after w.script.catalog w.events; now = w.clock; gate = t.gate; fresh = next_id t.client_slot.client }) text t.client_slot.client t.client a t.takes e);
+  calls = λ w u c store q how r a t h k runs x waiting waits so. replied a w.events c store q how r x t.client
+      (λ key id at e. called key id at w.events c t.client_slot.client k x waits q r w.clock a t.client e (call_of w.script.catalog w.events c t.client_slot.client k runs x waiting q r w.clock a t.client t.pending ((h.world.each t.place t.client_slot t.at).fitted t.goes_on) t.takes));
 }
   where
     accepted : (a : Option Answer) (events : List Event) (c : ℕ) (text : List ℕ) (d : ClientAt) → ((key : Key) (id : TxId) (at : ℤ) → a ≡ Some (answer.Busy key id at) → NoneAtEnd text) → SoBy IsBusyOfRead AnyWaits (events ++ event.Take c text a ∷ []) c (executed_of_take events text a) d a

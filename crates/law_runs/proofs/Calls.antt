@@ -87,6 +87,7 @@ event_call places c n (event.Stop x) before now m effect made = none_some m made
 event_call places c n (event.Clock moment) before now m effect made = none_some m made
 event_call places c n (event.Idle x) before now m effect made = none_some m made
 event_call places c n (event.Land x store q how r) before now m effect made = none_some m made
+event_call places c n (event.Alter table column kind altered) before now m effect made = none_some m made
 
 call_from : (places : List Place) (c first : ℕ) (es : List Event) (opening : List StoreContents) (moments : List (List StoreContents)) (closing : List StoreContents) (m : StoreCall) → IsTrace places es opening moments closing → Contains (filter_map (made_by c) (enumerate_from first es)) m → IsAt places opening moments first m
 call_from places c first [] opening moments closing m trace has = absurd (omega (arith, has.1))

@@ -4,6 +4,7 @@ use Rattle.std.specs.Prelude.{Contains, is_some}
 use Rattle.law_runs.specs.Types.{Answer, Doing, Event, How, Outcome, Reply, Request, Script, Table}
 use Rattle.sdb_types.specs.Contents.{CanAnswer}
 use Rattle.sdb_types.proofs.Public.{clash, length_more, map_last, none_some, some_is}
+use Rattle.sdb_model.specs.Catalogs.{catalog_after}
 use Rattle.sdb_model.specs.declared.answer.Answer.TheVariants as answer
 use Rattle.sdb_model.specs.declared.event.Event.TheVariants as event
 use Rattle.sdb_model.specs.declared.statement.Statement.TheVariants as statement
@@ -221,9 +222,9 @@ pub paths_kept : AreKept AnsweredPath WaitMakes
 paths_kept = record {
   answered = past_path;
   waiting = λ catalog events e c s h still so. still_makes h.txn events e c s still so;
-  takes = λ w u c text a t h. take_path (record { catalog = w.script.catalog; now = w.clock; gate = t.gate; fresh = next_id t.client_slot.client }) text t.client_slot.client t.client w.events c t.idle h.caused.clock a t.takes;
-  calls = λ w u c store q how r a t h k x waiting waits so. call_path w.script.catalog w.events c t.client_slot.client t.client store q how r w.clock t.can k x waiting waits so a
-      (call_of w.script.catalog w.events c t.client_slot.client k x waiting q r w.clock a t.client t.pending (h.world.each t.place t.client_slot t.at).fitted t.takes);
+  takes = λ w u c text a t h. take_path (record { catalog = catalog_after w.script.catalog w.events; now = w.clock; gate = t.gate; fresh = next_id t.client_slot.client }) text t.client_slot.client t.client w.events c t.idle h.caused.clock a t.takes;
+  calls = λ w u c store q how r a t h k runs x waiting waits so. call_path w.script.catalog w.events c t.client_slot.client t.client store q how r w.clock t.can k x waiting waits so a
+      (call_of w.script.catalog w.events c t.client_slot.client k runs x waiting q r w.clock a t.client t.pending ((h.world.each t.place t.client_slot t.at).fitted t.goes_on) t.takes);
 }
 
 -- Each COMMIT of an execution that is answered makes the calls of a COMMIT.

@@ -20,7 +20,7 @@ use Rattle.sdb_model.specs.declared.statement.Statement.TheVariants as statement
 use Rattle.sdb_model.specs.Calls.{StoreCall, calls_by, calls_of, end_of, is_stored_reply, decision_found, decision_in_reply, decision_learned, decision_observed, is_of_row, put_by, record_at_key, records_observed}
 use Rattle.sdb_model.specs.Causes.{AreCaused, IsBad, IsCaused, IsCommitOf, IsConflict, IsConflictAtCommit, IsCounted, IsDecided, IsRejected, MayPassMost, MeetsMisfit, PutsRow, before, is_select, may_pass}
 use Rattle.sdb_model.specs.Counted.{IsPassedOver, IsResolved, is_seen}
-use Rattle.sdb_model.specs.Events.{catalog_at}
+use Rattle.sdb_model.specs.Catalogs.{catalog_after}
 use Rattle.sdb_model.specs.Exec.{named_table, table_of}
 use Rattle.sdb_model.specs.Follows.{Follows}
 use Rattle.sdb_model.specs.ReadSet.{read_finished, read_set_of}
@@ -237,7 +237,7 @@ module _ (script : Script) (events : List Event) (playable : IsPlayable script) 
       commit_ends (answer.BadRecord key) e (inl z) =
           let row : is_coordinator_table key.table ≡ true = (execution_ends script events playable x client s (answer.BadRecord key) h.among (h.is ∙ ap Some e)).bad key (h.is ∙ ap Some e) alone.commit in
           absurd (alone.undecided z.0 z.1 z.2 z.3 (ap (λ (k : Key). is_coordinator_table k.table) z.4 ∙ row))
-      commit_ends (answer.BadRecord key) e (inr z) = none_some z.table (sym (ap (named_table (catalog_at script.catalog events s.accepted)) (other z.statement z.over.0)) ∙ z.over.1)
+      commit_ends (answer.BadRecord key) e (inr z) = none_some z.table (sym (ap (named_table (catalog_after script.catalog (before s events))) (other z.statement z.over.0)) ∙ z.over.1)
       commit_ends (answer.Refused r) e z = absurd (refused z)
         where
           refused : IsRejected script.catalog (before s events) client s.text (answer.Refused r) ⊎ ((r.kind ≡ 15) × (r.place ≡ 0) × MayPassMost events client s) → ⊥
@@ -323,12 +323,12 @@ module _ (script : Script) (events : List Event) (playable : IsPlayable script) 
             by (inr y) = as_rolled y
 
         -- one on a table is no VACUUM
-        no_vacuum : (y : Statement) (t : Table) → Reads s.text y → named_table (catalog_at script.catalog events s.accepted) y ≡ Some t → reads_vacuum s.text ≡ false
+        no_vacuum : (y : Statement) (t : Table) → Reads s.text y → named_table (catalog_after script.catalog (before s events)) y ≡ Some t → reads_vacuum s.text ≡ false
         no_vacuum y t reads named = by (reads_vacuum s.text) refl
           where
             by : (b : Bool) → reads_vacuum s.text ≡ b → reads_vacuum s.text ≡ false
             by false f = f
-            by true f = none_some t (sym (ap (named_table (catalog_at script.catalog events s.accepted)) (one_statement s.text y statement.Vacuum reads ((vacuum_read s.text).0 f))) ∙ named)
+            by true f = none_some t (sym (ap (named_table (catalog_after script.catalog (before s events))) (one_statement s.text y statement.Vacuum reads ((vacuum_read s.text).0 f))) ∙ named)
 
         unfit_rolled : (key : Key) → MeetsMisfit script.catalog events client s key → a ≡ answer.BadRecord key → Rolled
         unfit_rolled key z e =

@@ -39,6 +39,8 @@ put_back name places at (event.Clock moment ∷ es) before (s ∷ ss) closing sa
     ap (λ (x : List Event). event.Clock moment ∷ x) (put_back name places at es s ss closing (λ ns. ap (λ (y : List StoreContents). store_of places y ns) t.0 ∙ same ns) t.1)
 put_back name places at (event.Idle client ∷ es) before (s ∷ ss) closing same t =
     ap (λ (x : List Event). event.Idle client ∷ x) (put_back name places at es s ss closing (λ ns. ap (λ (y : List StoreContents). store_of places y ns) t.0 ∙ same ns) t.1)
+put_back name places at (event.Alter table column kind altered ∷ es) before (s ∷ ss) closing same t =
+    ap (λ (x : List Event). event.Alter table column kind altered ∷ x) (put_back name places at es s ss closing (λ ns. ap (λ (y : List StoreContents). store_of places y ns) t.0 ∙ same ns) t.1)
 put_back name places at (event.Call client store q how r answer ∷ es) before (s ∷ ss) closing same t =
     let c = t.0 in
     let rest = put_back name places at es s ss closing (λ ns. ap (λ (y : List StoreContents). store_of places y ns) c.others ∙ store_same places before store c.left ns ∙ same ns) t.1 in

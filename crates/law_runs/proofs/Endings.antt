@@ -1,5 +1,5 @@
 -- How a COMMIT comes to BadRecord, and a statement that reads to Conflict.
-use Rattle.std.proofs.Common.{◌≡◌, ◌≢◌, ◌⊎◌, inl, inr, ◌+◌, ◌<◌, ℕ, ℤ, true, false, List, [], ◌∷◌, ◌++◌, length, Option, Some, None, IfSome, Result, Ok, Err, refl, sym, ap, subst, ◌∙◌, arith}
+use Rattle.std.proofs.Common.{◌≡◌, ◌≢◌, ◌⊎◌, inl, inr, ◌+◌, ◌<◌, ℕ, ℤ, true, false, List, [], ◌∷◌, ◌++◌, length, Option, Some, None, IfSome, refl, sym, ap, subst, ◌∙◌, arith}
 use Rattle.std.specs.Prelude.{Contains, cond, is_some, nat_lt, slice_get}
 use Rattle.std.specs.List.{AllByRecursion}
 use Rattle.law_runs.specs.Types.{Answer, DecidePhase, DecideStep, Event, How, Key, Next, Outcome, PrepareStep, Progress, Record, Reply, Request, Script, Table, VacuumStep, ValidateStep}
@@ -8,6 +8,7 @@ use Rattle.sdb_types.specs.Contents.{CanAnswer}
 use Rattle.sdb_types.proofs.Public.{by_test, clash, length_more, none_some, some_is}
 use Rattle.sdb_record.specs.Coordinator.{coordinator_key_of, is_coordinator_table}
 use Rattle.sdb_record.specs.Meta.{is_moment}
+use Rattle.sdb_model.specs.Catalogs.{catalog_after}
 use Rattle.sdb_model.specs.declared.answer.Answer.TheVariants as answer
 use Rattle.sdb_model.specs.declared.event.Event.TheVariants as event
 use Rattle.sdb_model.specs.declared.statement.Statement.TheVariants as statement
@@ -322,9 +323,9 @@ ends_kept : AreKept (λ catalog. EndsAs) (λ catalog. AnyWaits)
 ends_kept = record {
   answered = past_ends;
   waiting = λ catalog events e c s h still t. tt;
-  takes = λ w u c text a t h. taken_ends (record { catalog = w.script.catalog; now = w.clock; gate = t.gate; fresh = next_id t.client_slot.client }) w.events c text t.client_slot.client t.client a t.takes;
-  calls = λ w u c store q how r a t h k x waiting waits so. call_ends w.script.catalog w.events c t.client_slot.client t.client store q how r w.clock k x waiting waits h.caused.clock h.world.moment h.world.playable.apart (h.world.each t.place t.client_slot t.at).about t.can a
-      (call_of w.script.catalog w.events c t.client_slot.client k x waiting q r w.clock a t.client t.pending (h.world.each t.place t.client_slot t.at).fitted t.takes);
+  takes = λ w u c text a t h. taken_ends (record { catalog = catalog_after w.script.catalog w.events; now = w.clock; gate = t.gate; fresh = next_id t.client_slot.client }) w.events c text t.client_slot.client t.client a t.takes;
+  calls = λ w u c store q how r a t h k runs x waiting waits so. call_ends w.script.catalog w.events c t.client_slot.client t.client store q how r w.clock k x waiting waits h.caused.clock h.world.moment h.world.playable.apart (h.world.each t.place t.client_slot t.at).about t.can a
+      (call_of w.script.catalog w.events c t.client_slot.client k runs x waiting q r w.clock a t.client t.pending ((h.world.each t.place t.client_slot t.at).fitted t.goes_on) t.takes);
 }
 
 -- It holds of each statement of an execution that is answered.

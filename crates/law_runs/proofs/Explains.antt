@@ -1,6 +1,6 @@
 -- Which records there are at every moment of several stores, which events put them there, and that reads are current, by what is so of the one
 -- store.
-use Rattle.std.proofs.Common.{◌≡◌, ◌⊎◌, ℕ, zero, suc, ◌<◌, ◌≤◌, Bool, true, false, List, [], ◌∷◌, ◌++◌, length, Option, Some, None, inl, inr, refl, sym, ap, subst, ◌∙◌}
+use Rattle.std.proofs.Common.{◌≡◌, ◌⊎◌, ℕ, zero, suc, ◌<◌, ◌≤◌, true, List, [], ◌∷◌, ◌++◌, length, Option, Some, None, inl, inr, refl, sym, ap, subst, ◌∙◌}
 use Rattle.std.specs.Prelude.{Contains, IsSomeAnd, is_some, map, take}
 use Rattle.std.specs.Option.{option_and_then, option_map}
 use Rattle.std.specs.Result.{result_ok}
@@ -109,6 +109,7 @@ contact_moved at (event.Stop c) = refl
 contact_moved at (event.Clock m) = refl
 contact_moved at (event.Idle c) = refl
 contact_moved at (event.Land n store q how r) = refl
+contact_moved at (event.Alter table column kind altered) = refl
 
 ---- lists of events that are moved
 
@@ -153,6 +154,10 @@ call_from at (event.Idle c) client store q how r answer is = absurd (apart is)
 call_from at (event.Land n u p g b) client store q how r answer is = absurd (apart is)
   where
     apart : event.Land n (at (table_asked p).ns) p g b ≡ event.Call client store q how r answer → ⊥
+    apart z = cc
+call_from at (event.Alter table column kind altered) client store q how r answer is = absurd (apart is)
+  where
+    apart : event.Alter table column kind altered ≡ event.Call client store q how r answer → ⊥
     apart z = cc
 
 ---- keys of the tables

@@ -1,6 +1,6 @@
 -- The requests in flight, and what an event more makes of them.
-use Rattle.std.proofs.Common.{◌≡◌, ◌⊎◌, inl, inr, ℕ, zero, suc, ◌+◌, Bool, true, false, List, [], ◌∷◌, ◌++◌, length, Option, Some, None, refl, sym, ap, subst, ◌∙◌, arith, slice_set, ◌≤◌}
-use Rattle.std.specs.Prelude.{◌||◌, ◌==◌, if◌then◌else◌, slice_get}
+use Rattle.std.proofs.Common.{◌≡◌, ◌⊎◌, inl, inr, ℕ, zero, suc, Bool, true, false, List, [], ◌∷◌, ◌++◌, length, Option, Some, None, refl, sym, ap, subst, ◌∙◌, arith, slice_set, ◌≤◌}
+use Rattle.std.specs.Prelude.{◌||◌, if◌then◌else◌, slice_get}
 use Rattle.std.specs.List.{cons_option, filter_map, list_any}
 use Rattle.std.specs.Option.{option_and_then}
 use Rattle.std.proofs.lemmas.Bool.{ne_eqb}
@@ -195,6 +195,7 @@ of_event catalog (event.Stop c) q is about = none_some q is
 of_event catalog (event.Clock m) q is about = none_some q is
 of_event catalog (event.Idle c) q is about = none_some q is
 of_event catalog (event.Land n store p how r) q is about = none_some q is
+of_event catalog (event.Alter table column kind altered) q is about = none_some q is
 
 -- A request that was delayed is about a table that its call was about.
 pub delayed_about : (catalog : List Table) (es : List Event) (k : ℕ) (q : Request) → slice_get (filter_map delayed_by es) k ≡ Some q → AreAbout catalog es → is_table_of_run catalog (table_asked q) ≡ true

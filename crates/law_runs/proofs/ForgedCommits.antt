@@ -13,13 +13,15 @@ use Rattle.sdb_model.specs.declared.answer.Answer.TheVariants as answer
 use Rattle.sdb_model.specs.declared.event.How.TheVariants.{Seen}
 use Rattle.sdb_model.specs.Access.{with_row}
 use Rattle.sdb_model.specs.Calls.{StoreCall, calls_of}
+use Rattle.sdb_model.specs.Catalogs.{catalog_after}
+use Rattle.sdb_model.specs.Causes.{before}
 use Rattle.sdb_model.specs.Exec.{Tables}
 use Rattle.sdb_model.specs.Sql.{reads_commit}
 use Rattle.sdb_model.specs.Transactions.{Executed, changes_nothing, commit_of, ends, from_begin, id_of, point, rest_of, statements_by}
 use Rattle.law_clients.specs.Keys.{keys_on, keys_written, with_keys}
 use Rattle.law_answers.proofs.Public.{effective_by, IsMiddle, middle_ends, prepared_is}
 use Rattle.law_runs.specs.Forged.{CommitText, InsertOn, SelectOn, StatementOn, decides_early, decides_unapplied, decides_unprepared, insert_key, prepare_first, prepares_unwritten}
-use Rattle.law_runs.specs.Found.{AllRunAs, answered_inside, found_by, nothing_found, with_found}
+use Rattle.law_runs.specs.Found.{AllRunAs, AreUnder, answered_inside, found_by, nothing_found, with_found}
 use Rattle.law_runs.specs.Laws.{row_put}
 use Rattle.law_runs.specs.Written.{CommitsPrepareWritten, DecisionsFollowPoints, IsAfterPoint, PreparesAll, keys_of}
 use Rattle.law_runs.proofs.ForgedFound.{after_call, begin_said, begun, got_none, got_removed, insert_commits, one_running, select_commits, since_first}
@@ -37,7 +39,7 @@ abbrev read_call : Request → Reply → StoreCall
 read_call q r = record { at = 3; store = []; request = q; how = Seen; reply = r }
 
 module _ (f : StatementOn) (no_commit : reads_commit f.text ≡ false) (b : Answer) (middle : IsMiddle b) (changes : changes_nothing b ≡ false) (q : Request) (r : Reply) (t : CommitText) (events : List Event)
-    (says : statements_by 1 events ≡ begin_said f ∷ after_call f b ∷ commit_said t ∷ []) (reads : calls_of events 1 (after_call f b) ≡ read_call q r ∷ []) where
+    (says : statements_by 1 events ≡ begin_said f ∷ after_call f b ∷ commit_said t ∷ []) (reads : calls_of events 1 (after_call f b) ≡ read_call q r ∷ []) (accepted : catalog_after f.catalog (before (after_call f b) events) ≡ f.catalog) where
   abbrev s : Executed
   s = after_call f b
 
@@ -76,7 +78,7 @@ module _ (f : StatementOn) (no_commit : reads_commit f.text ≡ false) (b : Answ
   commit_prepares : CommitsPrepareWritten f.catalog events → PreparesAll (with_keys [] (keys_on f.table f.statement found)) (id_of 1 1) (calls_of events 1 z)
   commit_prepares law =
       subst (λ ks. PreparesAll ks (id_of 1 1) (calls_of events 1 z)) keys_are
-      (law 1 z (id_of 1 1) (record { commit = (refl, commits); statements = Some f.statement ∷ []; run = subst (λ ss. AllRunAs ss (Some f.statement ∷ [])) (sym ran) ((effective_by s b false refl changes, f.reads), tt) }))
+      (law 1 z (id_of 1 1) (record { commit = (refl, commits); under = f.catalog; accepted = subst (AreUnder f.catalog events f.catalog) (sym ran) (accepted, tt); statements = Some f.statement ∷ []; run = subst (λ ss. AllRunAs ss (Some f.statement ∷ [])) (sym ran) ((effective_by s b false refl changes, f.reads), tt) }))
 
 ---- the forgeries
 
@@ -91,7 +93,7 @@ unwritten_refused f r row t law = by has.count (sym (one_prepared (id_of 1 1) []
 
     has : PreparesAll [] (id_of 1 1) (m ∷ [])
     has = subst (λ ks. PreparesAll ks (id_of 1 1) (m ∷ [])) keys
-        (commit_prepares f.on (select_commits f) (answer.Rows (row ∷ [])) (record { undone = refl; agrees = refl }) refl (ask.Get t.write.key) (reply.Found (Some r)) t (prepares_unwritten f r row t) refl refl law)
+        (commit_prepares f.on (select_commits f) (answer.Rows (row ∷ [])) (record { undone = refl; agrees = refl }) refl (ask.Get t.write.key) (reply.Found (Some r)) t (prepares_unwritten f r row t) refl refl refl law)
 
     by : (n : ℕ) → t.write.key ∷ [] ≡ take n [] → ⊥
     by zero e = cc
@@ -115,7 +117,7 @@ unprepared_refused f t law = none_first (insert_key f) (has.decided m (Contains-
 
     has : PreparesAll (insert_key f ∷ []) (id_of 1 1) (m ∷ [])
     has = subst (λ ks. PreparesAll ks (id_of 1 1) (m ∷ [])) (inserted f)
-        (commit_prepares f.on (insert_commits f) (answer.Count 1) (record { undone = refl; agrees = refl }) refl (ask.Get (insert_key f)) (reply.Found None) t (decides_unprepared f t) refl refl law)
+        (commit_prepares f.on (insert_commits f) (answer.Count 1) (record { undone = refl; agrees = refl }) refl (ask.Get (insert_key f)) (reply.Found None) t (decides_unprepared f t) refl refl refl law)
 
 pub unapplied_refused : (f : InsertOn) (t : CommitText) → CommitsPrepareWritten f.on.catalog (decides_unapplied f t) → ⊥
 unapplied_refused f t law = none_first (insert_key f) (has.decided m (Contains-push (p ∷ []) m) (t.now, refl))
@@ -128,7 +130,7 @@ unapplied_refused f t law = none_first (insert_key f) (has.decided m (Contains-p
 
     has : PreparesAll (insert_key f ∷ []) (id_of 1 1) (p ∷ m ∷ [])
     has = subst (λ ks. PreparesAll ks (id_of 1 1) (p ∷ m ∷ [])) (inserted f)
-        (commit_prepares f.on (insert_commits f) (answer.Count 1) (record { undone = refl; agrees = refl }) refl (ask.Get (insert_key f)) (reply.Found None) t (decides_unapplied f t) refl refl law)
+        (commit_prepares f.on (insert_commits f) (answer.Count 1) (record { undone = refl; agrees = refl }) refl (ask.Get (insert_key f)) (reply.Found None) t (decides_unapplied f t) refl refl refl law)
 
 pub early_refused : (f : InsertOn) (t : CommitText) → DecisionsFollowPoints (decides_early f t) → ⊥
 early_refused f t law = no_order (point (decides_early f t) (id_of 1 1)) (after.prepared p (Contains-push (m ∷ []) p) (prepared_is (id_of 1 1) t.now t.write)).2 after.decides
@@ -142,7 +144,7 @@ early_refused f t law = no_order (point (decides_early f t) (id_of 1 1)) (after.
     after : IsAfterPoint (decides_early f t) 1 (commit_said t) (id_of 1 1) m
     after =
         law 1 (commit_said t) (id_of 1 1) m (record {
-          commit = (refl, commits f.on (insert_commits f) (answer.Count 1) (record { undone = refl; agrees = refl }) refl (ask.Get (insert_key f)) (reply.Found None) t (decides_early f t) refl refl);
+          commit = (refl, commits f.on (insert_commits f) (answer.Count 1) (record { undone = refl; agrees = refl }) refl (ask.Get (insert_key f)) (reply.Found None) t (decides_early f t) refl refl refl);
           fits = omega arith;
           call = Contains-append_left (m ∷ []) (p ∷ []) m (Contains-push [] m);
           puts = (t.now, refl);

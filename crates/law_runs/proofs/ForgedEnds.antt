@@ -7,14 +7,15 @@ use Rattle.sdb_types.proofs.Public.{clash}
 use Rattle.sdb_model.specs.declared.answer.Answer.TheVariants as answer
 use Rattle.sdb_model.specs.declared.event.Event.TheVariants as event
 use Rattle.sdb_model.specs.declared.statement.Statement.TheVariants as statement
-use Rattle.sdb_model.specs.Causes.{IsChecked, IsRejected, IsUnmet, is_open}
+use Rattle.sdb_model.specs.Causes.{IsChecked, IsRejected, IsUnmet}
+use Rattle.sdb_model.specs.Follows.{is_open}
 use Rattle.sdb_model.specs.Exec.{table_of}
-use Rattle.sdb_model.specs.Sql.{Reads, reads_begin, reads_commit}
+use Rattle.sdb_model.specs.Sql.{Reads, reads_commit}
 use Rattle.sdb_model.specs.Transactions.{Executed, ends}
 use Rattle.sdb_sqltext.proofs.Public.{commit_read, one_statement}
 use Rattle.law_clients.proofs.Public.{refused_no_commit}
 use Rattle.law_runs.specs.Complete.{UncontendedCommitsComplete}
-use Rattle.law_runs.specs.Forged.{faults_at_once}
+use Rattle.law_runs.specs.Forged.{EmptyTransaction, faults_at_once}
 use Rattle.law_runs.proofs.Statements.{none_in}
 
 -- a COMMIT in a transaction isn't rejected
@@ -32,23 +33,23 @@ stays catalog past text commit opened b h = by h
     by (inr (inr (inr (inr (inl z))))) = let e = same statement.Begin z.0 in cc
     by (inr (inr (inr (inr (inr z))))) = let e = same statement.Vacuum z.0 in cc
 
-pub faulted_refused : (catalog : List Table) (begin commit : List ℕ) → reads_begin begin ≡ true → reads_commit commit ≡ true → UncontendedCommitsComplete catalog (faults_at_once begin commit) → ⊥
-faulted_refused catalog begin commit begins commits law =
-    law 1 s answer.Faulted (record { among = Contains-push (b ∷ []) s; is = refl; accepted = stays catalog (event.Take 1 begin (Some answer.Done) ∷ []) commit commits opened; served = λ m has. none_in m has })
+pub faulted_refused : (catalog : List Table) (t : EmptyTransaction) → UncontendedCommitsComplete catalog (faults_at_once t) → ⊥
+faulted_refused catalog t law =
+    law 1 s answer.Faulted (record { among = Contains-push (b ∷ []) s; is = refl; accepted = stays catalog (event.Take 1 t.begin (Some answer.Done) ∷ []) t.commit t.commits opened; served = λ m has. none_in m has })
     (record {
-      commit = commits;
+      commit = t.commits;
       unchanged = λ id of. record { observed = λ key found observed moved. unseen key found id observed; agreed = λ key z. none_in z.0 z.3 };
       undecided = λ m r has observed is. none_in m has;
     })
   where
     b : Executed
-    b = record { accepted = 1; text = begin; answer = Some answer.Done; reached = 1 }
+    b = record { accepted = 1; text = t.begin; answer = Some answer.Done; reached = 1 }
 
     s : Executed
-    s = record { accepted = 2; text = commit; answer = Some answer.Faulted; reached = 2 }
+    s = record { accepted = 2; text = t.commit; answer = Some answer.Faulted; reached = 2 }
 
-    opened : is_open (event.Take 1 begin (Some answer.Done) ∷ []) 1 ≡ true
-    opened = ap (λ (t : Bool). if t && true then true else (if ends b && true then false else false)) begins
+    opened : is_open (event.Take 1 t.begin (Some answer.Done) ∷ []) 1 ≡ true
+    opened = ap (λ (x : Bool). if x && true then true else (if ends b && true then false else false)) t.begins
 
     unseen : (key : Key) (found : Option Record) (id : TxId) → IsUnmet [] id key found ⊎ IsChecked [] id key found → ⊥
     unseen key found id (inl z) = none_in z.0 z.1

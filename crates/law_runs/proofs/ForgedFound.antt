@@ -20,6 +20,8 @@ use Rattle.sdb_model.specs.declared.event.How.TheVariants.{Seen}
 use Rattle.sdb_model.specs.Access.{in_access, with_row}
 use Rattle.sdb_model.specs.Reads.{access_of}
 use Rattle.sdb_model.specs.Calls.{StoreCall, calls_of, put_by}
+use Rattle.sdb_model.specs.Catalogs.{catalog_after}
+use Rattle.sdb_model.specs.Causes.{before}
 use Rattle.sdb_model.specs.Exec.{Tables, answer_of, cut, exec, exec_in, left_by, nat_of, passes, passing, row_of_entry, projected, sorted, with_named}
 use Rattle.sdb_model.specs.Sql.{Reads, reads_commit}
 use Rattle.sdb_model.specs.Transactions.{Executed, begins, changes_nothing, from_begin, is_effective, rest_of, statements_by, through_end, statements_of, ends}
@@ -29,7 +31,7 @@ use Rattle.law_clients.proofs.Public.{other_no_commit}
 use Rattle.law_answers.proofs.Public.{effective_by, IsMiddle, middle_ends}
 use Rattle.law_runs.specs.Forged.{FindsMisfit, FindsRow, InsertOn, SelectOn, IsCommittedRow, StatementOn, UpdateOn, answered_after, answered_at_once, counts_over, counts_twice, counts_unread, duplicates_none, insert_key, leaves_out, answers_rows, answers_two, answers_unread, reads_again, FindsUnresolved, answers_unrolled}
 use Rattle.sdb_model.specs.ReadSet.{has_read, meaning_of, rolls}
-use Rattle.law_runs.specs.Found.{IsRunOnFound, RunsOnFound, View, exec_on, found_by, found_in, is_answered, is_misfit_row, meets_misfit, nothing_found, run_on_found, run_one, with_found, with_one_found, ReadsAreNew, was_found, AllRunAs, takes_part}
+use Rattle.law_runs.specs.Found.{IsRunOnFound, RunsOnFound, RunsUnder, View, exec_on, found_by, found_in, is_answered, is_misfit_row, meets_misfit, nothing_found, run_on_found, run_one, with_found, with_one_found, ReadsAreNew, was_found, AllRunAs, takes_part}
 use Rattle.law_runs.proofs.Running.{is_running, run_by, running, running_more}
 
 ---- the statements of the first transaction of client 1
@@ -40,8 +42,12 @@ first = record { 0 = 18446744073709551617 }
 pub since_first : (b : Executed) (ss : List Executed) → begins b ≡ true → rest_of (from_begin 1 (b ∷ ss)) ≡ ss
 since_first b ss e = ap (λ t. rest_of (if t then b ∷ ss else from_begin 1 ss)) e
 
-runs_of : (catalog : List Table) (events : List Event) (b : Executed) (ss : List Executed) → RunsOnFound catalog events → begins b ≡ true → statements_by 1 events ≡ b ∷ ss → IsRunOnFound catalog events 1 (running events 1 ss)
-runs_of catalog events b ss law e same = subst (λ xs. IsRunOnFound catalog events 1 (running events 1 xs)) (ap (λ xs. rest_of (from_begin 1 xs)) same ∙ since_first b ss e) (law first)
+runs_of : (catalog : List Table) (events : List Event) (b : Executed) (ss : List Executed) → RunsOnFound catalog events → begins b ≡ true → statements_by 1 events ≡ b ∷ ss → RunsUnder catalog events 1 (running events 1 ss)
+runs_of catalog events b ss law e same = subst (λ xs. RunsUnder catalog events 1 (running events 1 xs)) (ap (λ xs. rest_of (from_begin 1 xs)) same ∙ since_first b ss e) (law first)
+
+-- its first statement was accepted under the catalog itself
+run_itself : (catalog : List Table) (events : List Event) (s : Executed) (ss : List Executed) → catalog_after catalog (before s events) ≡ catalog → RunsUnder catalog events 1 (s ∷ ss) → IsRunOnFound catalog events 1 (s ∷ ss)
+run_itself catalog events s ss same r = subst (λ (ts : List Table). IsRunOnFound ts events 1 (s ∷ ss)) (sym r.1.0 ∙ same) r.2
 
 -- a statement that reads rows, which is answered so
 pub record IsPlain (s : Executed) (st : Statement) (b : Answer) : Type 0 where
@@ -195,7 +201,7 @@ module _ (f : StatementOn) where
         let events : List Event = answered_at_once f b in
         sym (ap (λ (x : Answer × Tables). x.0) (answers_on empty))
         ∙ (one_answer f.catalog events (at_once b) f.statement b (effective_by (at_once b) b false refl changes) f.reads refl
-        (subst (IsRunOnFound f.catalog events 1) (one_running events (at_once b) f.statement b h) (runs_of f.catalog events begin_said (at_once b ∷ []) law begun refl))).1
+        (run_itself f.catalog events (at_once b) [] refl (subst (RunsUnder f.catalog events 1) (one_running events (at_once b) f.statement b h) (runs_of f.catalog events begin_said (at_once b ∷ []) law begun refl)))).1
 
     -- after one
     after_answer : (q : Request) (r : Reply) → RunsOnFound f.catalog (answered_after f q r b) → (meets_misfit f.catalog f.statement (view q r) ≡ false) × (answer_of f.table f.statement (view q r).rows ≡ b)
@@ -203,7 +209,7 @@ module _ (f : StatementOn) where
         let h : IsPlain (after_call b) f.statement b = record { reads = f.reads; answered = refl; middle = middle; changes = changes; no_commit = no_commit } in
         let events : List Event = answered_after f q r b in
         let given = one_answer f.catalog events (after_call b) f.statement b (effective_by (after_call b) b false refl changes) f.reads refl
-        (subst (IsRunOnFound f.catalog events 1) (one_running events (after_call b) f.statement b h) (runs_of f.catalog events begin_said (after_call b ∷ []) law begun refl)) in
+        (run_itself f.catalog events (after_call b) [] refl (subst (RunsUnder f.catalog events 1) (one_running events (after_call b) f.statement b h) (runs_of f.catalog events begin_said (after_call b ∷ []) law begun refl))) in
         (given.0, sym (ap (λ (x : Answer × Tables). x.0) (answers_on (view q r).rows)) ∙ given.1)
 
   -- what a get of a key of the table finds
@@ -397,7 +403,7 @@ forgotten_refused f law = no_count (sym (ap (answer_of f.on.table f.on.statement
     answered =
         sym (ap (λ (x : Answer × Tables). x.0) (answers_on f.on (exec f.on.catalog f.on.statement w.rows).1))
         ∙ two_answers f.on.catalog es s z f.on.statement (answer.Count 1) refl refl f.on.reads f.on.reads refl
-        (subst (IsRunOnFound f.on.catalog es 1) (two_running es s z f.on.statement (answer.Count 1) (answer.Count 1) plain_s plain_z) (runs_of f.on.catalog es (begin_said f.on) (s ∷ z ∷ []) law (begun f.on) refl))
+        (run_itself f.on.catalog es s (z ∷ []) refl (subst (RunsUnder f.on.catalog es 1) (two_running es s z f.on.statement (answer.Count 1) (answer.Count 1) plain_s plain_z) (runs_of f.on.catalog es (begin_said f.on) (s ∷ z ∷ []) law (begun f.on) refl)))
 
     rows : (exec f.on.catalog f.on.statement w.rows).1 ≡ insert (with_row empty (insert_key f) None) (insert_key f) (with_named f.on.table f.insert.columns f.insert.values [])
     rows =

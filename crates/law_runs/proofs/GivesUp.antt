@@ -8,6 +8,7 @@ use Rattle.sdb_types.specs.declared.record.Reply.TheVariants as reply
 use Rattle.sdb_record.specs.declared.coordinator.Decision.TheVariants as decision
 use Rattle.sdb_record.specs.Coordinator.{is_expired}
 use Rattle.sdb_record.specs.Rolls.{is_tombstone}
+use Rattle.sdb_model.specs.Catalogs.{catalog_after}
 use Rattle.sdb_model.specs.Calls.{StoreCall, calls_after, calls_of, clock_at, is_read, key_asked}
 use Rattle.law_clients.specs.About.{IsDoingIn, IsIn, IsOfTables, IsStageIn, IsVacuumStageIn, IsVacuumIn, IsWorkIn}
 use Rattle.law_runs.proofs.Unprepared.{base_of}
@@ -326,9 +327,9 @@ past_due events e c s past due m id has fits puts = by (due m id (subst (λ (ms 
 no_calls : (events : List Event) (calls : List StoreCall) → calls ≡ [] → AllGive events calls
 no_calls events calls none m id has fits puts = none_in m (subst (λ (ms : List StoreCall). Contains ms m) none has)
 
-takes_due : (w : WorldAt) (u : State) (c : ℕ) (text : List ℕ) (a : Option Answer) (t : TakeStep w.script (state_of w) c text a u) → Holds w → SoBy AreDue WaitDue (w.events ++ event.Take c text a ∷ []) c (executed_of_take w.events text a) t.client a
+takes_due : (w : WorldAt) (u : State) (c : ℕ) (text : List ℕ) (a : Option Answer) (t : TakeStep w.script w.events (state_of w) c text a u) → Holds w → SoBy AreDue WaitDue (w.events ++ event.Take c text a ∷ []) c (executed_of_take w.events text a) t.client a
 takes_due w u c text (Some b) t h = λ m id has fits puts. none_in m (subst (λ (ms : List StoreCall). Contains ms m) (none_yet c w.events text (Some b)) has)
-takes_due w u c text None t h = by (taken_as (record { catalog = w.script.catalog; now = w.clock; gate = t.gate; fresh = next_id t.client_slot.client }) text t.client_slot.client t.client t.takes)
+takes_due w u c text None t h = by (taken_as (record { catalog = catalog_after w.script.catalog w.events; now = w.clock; gate = t.gate; fresh = next_id t.client_slot.client }) text t.client_slot.client t.client t.takes)
   where
     E : List Event
     E = w.events ++ event.Take c text None ∷ []
@@ -356,7 +357,7 @@ takes_due w u c text None t h = by (taken_as (record { catalog = w.script.catalo
     reads None x a e = (none, tt)
     reads (Some v) x a e = none_some v (sym e)
 
-    by : TakenAs (record { catalog = w.script.catalog; now = w.clock; gate = t.gate; fresh = next_id t.client_slot.client }) t.client_slot.client t.client → HandGives E calls accepted t.client.vacuum t.client.txn
+    by : TakenAs (record { catalog = catalog_after w.script.catalog w.events; now = w.clock; gate = t.gate; fresh = next_id t.client_slot.client }) t.client_slot.client t.client → HandGives E calls accepted t.client.vacuum t.client.txn
     by (inl z) = subst (λ (y : ClientAt). HandGives E calls accepted y.vacuum y.txn) (sym z.left) (commits t.client_slot.client.vacuum z.t t.idle.free)
     by (inr (inl z)) = subst (λ (y : ClientAt). HandGives E calls accepted y.vacuum y.txn) (sym z.left) (none, tt)
     by (inr (inr z)) = subst (λ (y : ClientAt). HandGives E calls accepted y.vacuum y.txn) (sym z.left) (reads t.client_slot.client.vacuum z.t z.access t.idle.free)
@@ -592,8 +593,8 @@ due_kept = record {
   answered = λ catalog. past_due;
   waiting = λ catalog events e c s h still so. still_gives c events e s still.calls still.clock h.vacuum h.txn so;
   takes = takes_due;
-  calls = λ w u c store q how r a t h k x waiting waits so. call_due w.script.catalog w.events c t.client_slot.client t.client store q how r w.clock k x waiting waits h.caused.clock (h.world.each t.place t.client_slot t.at).about h.world.playable.apart so a
-      (call_of w.script.catalog w.events c t.client_slot.client k x waiting q r w.clock a t.client t.pending (h.world.each t.place t.client_slot t.at).fitted t.takes);
+  calls = λ w u c store q how r a t h k runs x waiting waits so. call_due w.script.catalog w.events c t.client_slot.client t.client store q how r w.clock k x waiting waits h.caused.clock (h.world.each t.place t.client_slot t.at).about h.world.playable.apart so a
+      (call_of w.script.catalog w.events c t.client_slot.client k runs x waiting q r w.clock a t.client t.pending ((h.world.each t.place t.client_slot t.at).fitted t.goes_on) t.takes);
 }
 
 -- Each write of a row of an execution is due.

@@ -17,6 +17,8 @@ mod Kept
 mod Flights
 mod Gates
 mod Linked
+mod Alters
+mod SameTables
 mod Causing
 mod First
 mod Steps

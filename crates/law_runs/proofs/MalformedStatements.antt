@@ -236,8 +236,8 @@ so_kept = record {
   answered = λ catalog events e c s past so f g. subst (EndsBy s.answer) (sym past.calls) (so f g);
   waiting = λ catalog events e c s h still so f g. subst (TxnSo h.txn) (sym still.calls) (so f g);
   takes = λ w u c text a t h. take_so w.events c text a t.client;
-  calls = λ w u c store q how r a t h k x waiting waits so. call_so w.script.catalog w.events c t.client_slot.client t.client store q how r w.clock k.entries x waits so a
-      (call_of w.script.catalog w.events c t.client_slot.client k x waiting q r w.clock a t.client t.pending (h.world.each t.place t.client_slot t.at).fitted t.takes);
+  calls = λ w u c store q how r a t h k runs x waiting waits so. call_so w.script.catalog w.events c t.client_slot.client t.client store q how r w.clock k.entries x waits so a
+      (call_of w.script.catalog w.events c t.client_slot.client k runs x waiting q r w.clock a t.client t.pending ((h.world.each t.place t.client_slot t.at).fitted t.goes_on) t.takes);
 }
 
 -- Of each call by which a statement of an execution read rows, that reads and is answered so.

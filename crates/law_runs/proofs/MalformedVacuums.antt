@@ -25,7 +25,7 @@ use Rattle.sdb_phases.specs.Recover.{recover_next}
 use Rattle.sdb_txn.specs.Read.{Bad, Firm, Kind, Open, kind_of}
 use Rattle.sdb_vacuum.specs.declared.work.VacuumStep.TheVariants as vacuuming
 use Rattle.sdb_vacuum.specs.Vacuum.{Gives, Over, Removing, Resolving, Scanning, Tombstone, VacuumAt, VacuumStage, answered, first_of, first_one, next_of_row, next_table, pending_at, removal_answered, resolved, step_at, tombstone_or, vacuum_step, with_call}
-use Rattle.sdb_client.specs.Client.{ClientAt, VacuumPost, after, answer_of, next_of, vacuum_left}
+use Rattle.sdb_client.specs.Client.{ClientAt, answer_of, next_of, vacuum_left}
 use Rattle.law_clients.specs.History.{executed_of_take}
 use Rattle.law_answers.specs.Invariant.{IsWaiting}
 use Rattle.law_answers.specs.Vacuums.{VacuumStageBy}
@@ -255,8 +255,8 @@ so_kept = record {
   answered = λ catalog events e c s past so is. subst (EndsBy s.answer) (sym past.calls) (so is);
   waiting = λ catalog events e c s h still so. subst (VacuumSo h.vacuum) (sym still.calls) so;
   takes = λ w u c text a t h. take_so w.events c text a t.client;
-  calls = λ w u c store q how r a t h k x waiting waits so. call_so w.script.catalog w.events c t.client_slot.client t.client store q how r w.clock k.entries x waits so a
-      (call_of w.script.catalog w.events c t.client_slot.client k x waiting q r w.clock a t.client t.pending (h.world.each t.place t.client_slot t.at).fitted t.takes);
+  calls = λ w u c store q how r a t h k runs x waiting waits so. call_so w.script.catalog w.events c t.client_slot.client t.client store q how r w.clock k.entries x waits so a
+      (call_of w.script.catalog w.events c t.client_slot.client k runs x waiting q r w.clock a t.client t.pending ((h.world.each t.place t.client_slot t.at).fitted t.goes_on) t.takes);
 }
 
 -- Of each scan of a VACUUM of an execution, that is answered so.

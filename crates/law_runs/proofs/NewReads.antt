@@ -8,6 +8,7 @@ use Rattle.sdb_types.specs.Order.{same_key}
 use Rattle.sdb_types.proofs.Public.{all_last, by_test, clash, none_some, or_false, some_is}
 use Rattle.sdb_snapshot.specs.Entries.{value_at}
 use Rattle.sdb_record.specs.declared.access.Access.TheVariants as access
+use Rattle.sdb_model.specs.Catalogs.{catalog_after}
 use Rattle.sdb_model.specs.declared.event.Event.TheVariants as event
 use Rattle.sdb_model.specs.Calls.{StoreCall, calls_of}
 use Rattle.sdb_model.specs.ReadSet.{reads_rows}
@@ -198,9 +199,9 @@ pub new_kept : AreKept NothingMore WaitNew
 new_kept = record {
   answered = λ catalog events e c s past so. tt;
   waiting = λ catalog events e c s h still so. subst (TxnNew h.txn) (sym still.calls) so;
-  takes = λ w u c text a t h. take_new (record { catalog = w.script.catalog; now = w.clock; gate = t.gate; fresh = next_id t.client_slot.client }) text t.client_slot.client t.client a w.events c t.idle t.takes;
-  calls = λ w u c store q how r a t h k x waiting waits so. call_new w.script.catalog w.events c t.client_slot.client t.client store q how r w.clock k.entries x so waits a
-      (call_of w.script.catalog w.events c t.client_slot.client k x waiting q r w.clock a t.client t.pending (h.world.each t.place t.client_slot t.at).fitted t.takes);
+  takes = λ w u c text a t h. take_new (record { catalog = catalog_after w.script.catalog w.events; now = w.clock; gate = t.gate; fresh = next_id t.client_slot.client }) text t.client_slot.client t.client a w.events c t.idle t.takes;
+  calls = λ w u c store q how r a t h k runs x waiting waits so. call_new w.script.catalog w.events c t.client_slot.client t.client store q how r w.clock k.entries x so waits a
+      (call_of w.script.catalog w.events c t.client_slot.client k runs x waiting q r w.clock a t.client t.pending ((h.world.each t.place t.client_slot t.at).fitted t.goes_on) t.takes);
 }
 
 -- A statement whose calls read rows by an access that what was read doesn't cover reads new.
@@ -208,16 +209,16 @@ pub access_new : (catalog : List Table) (events : List Event) (c : ℕ) (ss : Li
 access_new catalog events c ss s a z runs uncovered all no_commit m among reads = subst (IsNewRead events c ss) (sym (each_in (λ (y : StoreCall). reads_rows y ≡ true → y.request ≡ request_of a) (calls_of events c z) m all among reads)) (new_of catalog events c ss s a runs uncovered)
 
 -- a statement that is answered by a call
-pub answered_new : (catalog : List Table) (events : List Event) (c : ℕ) (h d : ClientAt) (k : Knows catalog events c h) (runs : ClientRuns catalog events c h) (store : Name) (q : Request) (how : How) (r : Reply) (now : ℤ) (x : Executed) (b : Answer) → IsWaiting catalog events c (is_some h.vacuum) x → WaitNew catalog events c x h → CallOf catalog events c k.entries x h q r now (Some b) d
+pub answered_new : (catalog under : List Table) (events : List Event) (c : ℕ) (h d : ClientAt) (k : Knows catalog events c h) (runs : ClientRuns catalog under events c h) (store : Name) (q : Request) (how : How) (r : Reply) (now : ℤ) (x : Executed) (b : Answer) → IsWaiting catalog events c (is_some h.vacuum) x → WaitNew catalog events c x h → CallOf catalog events c k.entries x h q r now (Some b) d
     → open_after k.entries ≡ true → StatementNew (events ++ event.Call c store q how r (Some b) ∷ []) c (running_of (events ++ event.Call c store q how r (Some b) ∷ []) c (begun_in k.entries) k.entries) (executed_with_answer events x b)
-answered_new catalog events c h d k runs store q how r now x b waits so (inl z) opened = clash (sym opened ∙ closed catalog events c h k runs (event.Call c store q how r (Some b)) z.rests)
-answered_new catalog events c h d k runs store q how r now x b waits so (inr (inr z)) opened = λ no_commit. clash (sym z.is.text ∙ no_commit)
-answered_new catalog events c h d k runs store q how r now x b waits so (inr (inl z)) opened =
+answered_new catalog under events c h d k runs store q how r now x b waits so (inl z) opened = clash (sym opened ∙ closed catalog under events c h k runs (event.Call c store q how r (Some b)) z.rests)
+answered_new catalog under events c h d k runs store q how r now x b waits so (inr (inr z)) opened = λ no_commit. clash (sym z.is.text ∙ no_commit)
+answered_new catalog under events c h d k runs store q how r now x b waits so (inr (inl z)) opened =
     let e : Event = event.Call c store q how r (Some b) in
     let more = access_more catalog events c h d store q how r now k.entries x so (Some b) z in
     subst (λ n. StatementNew (events ++ e ∷ []) c (running_of (events ++ e ∷ []) c n k.entries) (executed_with_answer events x b)) k.begun
-    (access_new catalog (events ++ e ∷ []) c (running_of (events ++ e ∷ []) c h.begun k.entries) z.t.seen z.access (executed_with_answer events x b)
-    (subst (SeesIn catalog (events ++ e ∷ []) c (running_of (events ++ e ∷ []) c h.begun k.entries) z.t.seen) z.reads (sees_open catalog events c h k runs e z.t z.opened z.free)) more.0
+    (access_new under (events ++ e ∷ []) c (running_of (events ++ e ∷ []) c h.begun k.entries) z.t.seen z.access (executed_with_answer events x b)
+    (subst (SeesIn under (events ++ e ∷ []) c (running_of (events ++ e ∷ []) c h.begun k.entries) z.t.seen) z.reads (sees_open catalog under events c h k runs e z.t z.opened z.free).1) more.0
     (subst (ReadsAccess z.access) (sym (calls_more events c store q how r x waits.unanswered waits.accepted (Some b))) more.1))
 
 -- one that is answered as it is accepted

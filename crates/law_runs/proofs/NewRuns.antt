@@ -8,6 +8,7 @@ use Rattle.sdb_types.proofs.Public.{clash}
 use Rattle.law_runs.specs.Types.{Answer, Doing, Event, Script, Table}
 use Rattle.sdb_model.specs.declared.event.Event.TheVariants as event
 use Rattle.sdb_model.specs.Calls.{calls_of}
+use Rattle.sdb_model.specs.Catalogs.{catalog_after}
 use Rattle.sdb_model.specs.Transactions.{Executed, client_of, ends, from_begin, ordinal_of, rest_of, statements_by, through_end}
 use Rattle.sdb_exec.specs.Plans.{Planned}
 use Rattle.sdb_txn.specs.declared.txn.Doing.TheVariants as doing
@@ -17,14 +18,14 @@ use Rattle.sdb_client.specs.Client.{ClientAt}
 use Rattle.law_clients.specs.States.{ClientState}
 use Rattle.law_clients.specs.History.{executed_with_answer, executed_of_take, waiting_of}
 use Rattle.law_clients.proofs.Public.{others_silent, executed_more, take_executed}
-use Rattle.law_answers.specs.Invariant.{IsAnswered, IsDoing, IsWaiting, Knows, DoingByHistory, ClientByHistory, begun_in, open_after}
+use Rattle.law_answers.specs.Invariant.{IsAnswered, IsCurrent, IsDoing, IsWaiting, Knows, DoingByHistory, ClientByHistory, begun_in, open_after}
 use Rattle.law_answers.proofs.Public.{call_executed, made_at, silent_executed, take_open}
 use Rattle.sdb_client.specs.Execution.{IsExecution, IsPath, IsPlayable, IsStepFrom, State}
 use Rattle.law_runs.specs.Found.{IsNewRead, ReadsAreNew, is_answered, takes_part}
 use Rattle.law_runs.specs.World.{WorldAt, states_of, state_of}
 use Rattle.law_runs.proofs.OngoingReads.{NothingMore}
-use Rattle.law_runs.proofs.FoundRuns.{AllRun, all_run, first_runs, hand_at, step_runs}
-use Rattle.law_runs.proofs.FoundSteps.{ClientRuns, SeesIn, SeesRun, all_answered, answered_of, answered_of_is}
+use Rattle.law_runs.proofs.FoundRuns.{AllRun, all_run, first_runs, hand_at, known_at, runs_here, step_runs}
+use Rattle.law_runs.proofs.FoundSteps.{SeesIn, SeesRun, all_answered, answered_of, answered_of_is}
 use Rattle.law_runs.proofs.Kept.{by_nat}
 use Rattle.law_runs.proofs.PreparingCalls.{WaitPrepares, prepares_kept}
 use Rattle.law_runs.proofs.NewReads.{AllNew, DoingNew, StatementNew, TxnNew, WaitNew, access_new, all_more, all_stay, answered_new, new_kept, taken_new}
@@ -81,19 +82,23 @@ module _ (w : WorldAt) (h : Holds w) (all : AllRun w) (so : AllSo NothingMore Wa
           ends_new catalog w.events (event.Take c text (Some b)) c (states_of w.client_slots c).client k (executed_of_take w.events text (Some b)) (now (Some b) ∙ ap (λ ss. ss ++ executed_of_take w.events text (Some b) ∷ []) (answered_of_is catalog w.events c (states_of w.client_slots c).client k)) (new c)
           (λ opened. taken_new w.events c text (Some b) (running_of (w.events ++ event.Take c text (Some b) ∷ []) c (begun_in k.entries) k.entries))
 
-  step_new : (e : Event) (u : State) → IsStepFrom w.script (state_of w) e u → AllReadNew (led w e u)
+  step_new : (e : Event) (u : State) → IsStepFrom w.script w.events (state_of w) e u → AllReadNew (led w e u)
   step_new (event.Take c text a) u t n = by_nat c n (λ same. subst (λ (x : ℕ). AllNew (w.events ++ event.Take c text a ∷ []) x (answered_of x (w.events ++ event.Take c text a ∷ []))) same (take_step c text a)) (λ apart. others_new (event.Take c text a) n (others_silent w.events n c (event.Take c text a) apart refl))
   step_new (event.Stop c) u t n = others_new (event.Stop c) n (executed_more n w.events (event.Stop c))
   step_new (event.Clock m) u t n = others_new (event.Clock m) n (executed_more n w.events (event.Clock m))
   step_new (event.Idle d) u t n = others_new (event.Idle d) n (executed_more n w.events (event.Idle d))
   step_new (event.Land x store q how r) u t n = others_new (event.Land x store q how r) n (executed_more n w.events (event.Land x store q how r))
+  step_new (event.Alter table column kind altered) u t n = others_new (event.Alter table column kind altered) n (executed_more n w.events (event.Alter table column kind altered))
   step_new (event.Call c store q how r a) u t n = by_nat c n (λ same. subst (λ (x : ℕ). AllNew (w.events ++ event.Call c store q how r a ∷ []) x (answered_of x (w.events ++ event.Call c store q how r a ∷ []))) same (by a refl)) (λ apart. others_new (event.Call c store q how r a) n (others_silent w.events n c (event.Call c store q how r a) apart refl))
     where
       next_state : states_of w.client_slots c ≡ record { client = t.client_slot.client; stopped = t.client_slot.stopped }
       next_state = hand_at w.client_slots t.place c t.client_slot t.number t.at
 
+      known : (k : Knows catalog w.events c t.client_slot.client) × IsCurrent catalog w.events t.client_slot.client.txn k.under
+      known = known_at w t.place c t.client_slot t.number t.at t.goes_on h
+
       k : Knows catalog w.events c t.client_slot.client
-      k = subst (λ (y : ClientState). Knows catalog w.events c y.client) next_state (h.caused.each c)
+      k = known.0
 
       x : (y : Executed) × (k.waiting ≡ Some y)
       x = pends_waits catalog w.events c t.client_slot.client q k t.pending
@@ -106,12 +111,12 @@ module _ (w : WorldAt) (h : Holds w) (all : AllRun w) (so : AllSo NothingMore Wa
       by (Some b) e =
           ends_new catalog w.events (event.Call c store q how r (Some b)) c t.client_slot.client k (executed_with_answer w.events x.0 b)
           (ap (filter is_answered) (call_executed c w.events (made_at w.events store q how r) b k.entries x.0 (k.same ∙ ap (λ (o : Option Executed). k.entries ++ waiting_of o) x.1)) ∙ filter-append is_answered k.entries (executed_with_answer w.events x.0 b ∷ []) ∙ ap (λ ss. ss ++ executed_with_answer w.events x.0 b ∷ []) (all_answered catalog w.events c k.entries k.answered)) (new c)
-          (answered_new catalog w.events c t.client_slot.client t.client k (subst (λ (y : ClientState). ClientRuns catalog w.events c y.client) next_state (all c)) store q how r w.clock x.0 b waits (wait_new w so c t.client_slot.client (ap (λ (y : ClientState). y.client) next_state) k x.0 x.1 waits)
-          (subst (λ (o : Option Answer). CallOf catalog w.events c k.entries x.0 t.client_slot.client q r w.clock o t.client) e (call_of catalog w.events c t.client_slot.client k x.0 x.1 q r w.clock a t.client t.pending (h.world.each t.place t.client_slot t.at).fitted t.takes)))
+          (answered_new catalog (catalog_after catalog w.events) w.events c t.client_slot.client t.client k (runs_here w t.place c t.client_slot t.number t.at t.goes_on all) store q how r w.clock x.0 b waits (wait_new w so c t.client_slot.client (ap (λ (y : ClientState). y.client) next_state) k x.0 x.1 waits)
+          (subst (λ (o : Option Answer). CallOf catalog w.events c k.entries x.0 t.client_slot.client q r w.clock o t.client) e (call_of catalog w.events c t.client_slot.client k known.1 x.0 x.1 q r w.clock a t.client t.pending ((h.world.each t.place t.client_slot t.at).fitted t.goes_on) t.takes)))
 
 ---- a whole execution
 
-path_new : (es : List Event) (w : WorldAt) (t : State) → IsPath w.script (state_of w) es t → Holds w → AllSo NothingMore WaitPrepares w → AllRun w → AllSo NothingMore WaitNew w → AllReadNew w → AllReadNew (record { script = w.script; client_slots = t.client_slots; flights = t.flights; events = w.events ++ es; clock = t.clock })
+path_new : (es : List Event) (w : WorldAt) (t : State) → IsPath w.script w.events (state_of w) es t → Holds w → AllSo NothingMore WaitPrepares w → AllRun w → AllSo NothingMore WaitNew w → AllReadNew w → AllReadNew (record { script = w.script; client_slots = t.client_slots; flights = t.flights; events = w.events ++ es; clock = t.clock })
 path_new [] w t h k prepared all so new = subst (λ (xs : List Event). (c : ℕ) → AllNew xs c (answered_of c xs)) (sym (append-nil w.events)) new
 path_new (e ∷ es) w t h k prepared all so new =
     subst (λ (xs : List Event). (c : ℕ) → AllNew xs c (answered_of c xs)) (append_assoc w.events (e ∷ []) es)
@@ -179,22 +184,25 @@ module _ (script : Script) (events : List Event) (playable : IsPlayable script) 
         so : TxnNew h.txn (calls_of events c w)
         so = wait_new (record { script = script; client_slots = x.last.client_slots; flights = x.last.flights; events = events; clock = x.last.clock }) (statements_so NothingMore WaitNew new_kept script events playable x) c h refl k w waiting waits
 
-        sees : IfSome h.txn (SeesRun script.catalog events c (running_of events c h.begun k.entries))
-        sees = subst (λ ss. IfSome h.txn (SeesRun script.catalog events c (running_of events c h.begun ss))) (answered_of_is script.catalog events c h k) (all_run script events playable x c).sees
+        under : List Table
+        under = (all_run script events playable x c).under
 
-        by_doing : (t : TxnAt) (p : Option Planned) (d : Doing) → IsDoing events c t p (Some w) d → DoingNew t.seen d (calls_of events c w) → SeesIn script.catalog events c (running_of events c h.begun k.entries) t.seen d → StatementNew events c (running_of events c (begun_in k.entries) k.entries) w
+        sees : IfSome h.txn (SeesRun script.catalog under events c (running_of events c h.begun k.entries))
+        sees = subst (λ ss. IfSome h.txn (SeesRun script.catalog under events c (running_of events c h.begun ss))) (answered_of_is script.catalog events c h k) (all_run script events playable x c).runs.sees
+
+        by_doing : (t : TxnAt) (p : Option Planned) (d : Doing) → IsDoing events c t p (Some w) d → DoingNew t.seen d (calls_of events c w) → SeesIn under events c (running_of events c h.begun k.entries) t.seen d → StatementNew events c (running_of events c (begun_in k.entries) k.entries) w
         by_doing t p doing.Idle i n s = absurd (none_is (sym i))
           where
             none_is : ◌≡◌ {A = Option Executed} None (Some w) → ⊥
             none_is e = cc
         by_doing t None (doing.Read a y) i n s = absurd i
-        by_doing t (Some p) (doing.Read a y) i n s = subst (λ m. StatementNew events c (running_of events c m k.entries) w) k.begun (access_new script.catalog events c (running_of events c h.begun k.entries) t.seen a w s n.0 n.1)
+        by_doing t (Some p) (doing.Read a y) i n s = subst (λ m. StatementNew events c (running_of events c m k.entries) w) k.begun (access_new under events c (running_of events c h.begun k.entries) t.seen a w s n.0 n.1)
         by_doing t p (doing.Commit y) i n s = λ no_commit. clash (sym i.text ∙ no_commit)
         by_doing t p doing.Over i n s = absurd i
 
-        by_txn : (o : Option TxnAt) → DoingByHistory events c h.begun k.entries (Some w) h.plan o → TxnNew o (calls_of events c w) → IfSome o (SeesRun script.catalog events c (running_of events c h.begun k.entries)) → StatementNew events c (running_of events c (begun_in k.entries) k.entries) w
+        by_txn : (o : Option TxnAt) → DoingByHistory events c h.begun k.entries (Some w) h.plan o → TxnNew o (calls_of events c w) → IfSome o (SeesRun script.catalog under events c (running_of events c h.begun k.entries)) → StatementNew events c (running_of events c (begun_in k.entries) k.entries) w
         by_txn None s n v = clash (sym opened ∙ s.1)
-        by_txn (Some t) s n v = by_doing t h.plan t.doing s.2 n v
+        by_txn (Some t) s n v = by_doing t h.plan t.doing s.2 n v.1
 
         by_vacuum : (v : Option VacuumAt) → ClientByHistory events c h.begun k.entries (Some w) h.plan h.txn v → StatementNew events c (running_of events c (begun_in k.entries) k.entries) w
         by_vacuum None s = by_txn h.txn s so sees

@@ -45,6 +45,7 @@ PutsAt (event.Stop client) k = ⊥
 PutsAt (event.Clock moment) k = ⊥
 PutsAt (event.Idle client) k = ⊥
 PutsAt (event.Land number store q how r) k = PutsBy q k
+PutsAt (event.Alter table column kind altered) k = ⊥
 
 left_or_put : (q : Request) (m : Contents) (k : Key) (row : Record) → record_at (after q m) k ≡ Some row → (record_at m k ≡ Some row) ⊎ PutsBy q k
 left_or_put (ask.Get key) m k row h = inl h
@@ -77,6 +78,7 @@ stood_or_put places (event.Call client store q how r answer) before now k row c 
 stood_or_put places (event.Stop client) before now k row same h = inl (ap (λ s. stored_at places s k) (sym same) ∙ h)
 stood_or_put places (event.Clock moment) before now k row same h = inl (ap (λ s. stored_at places s k) (sym same) ∙ h)
 stood_or_put places (event.Idle client) before now k row same h = inl (ap (λ s. stored_at places s k) (sym same) ∙ h)
+stood_or_put places (event.Alter table column kind altered) before now k row same h = inl (ap (λ s. stored_at places s k) (sym same) ∙ h)
 stood_or_put places (event.Land number store q how r) before now k row c h = call_left_or_put places q r before now k row (at_call places store q how r before now c) h
 
 ---- where an event puts
@@ -99,6 +101,7 @@ quiet_puts_none (event.Call client store (ask.DeleteIf key c) how r answer) k qu
 quiet_puts_none (event.Stop client) k quiet put = put
 quiet_puts_none (event.Clock moment) k quiet put = put
 quiet_puts_none (event.Idle client) k quiet put = put
+quiet_puts_none (event.Alter table column kind altered) k quiet put = put
 quiet_puts_none (event.Land number store q how r) k quiet put = absurd (cc (quiet))
 
 check_puts_none : (plan : Plan) (item : ReadItem) (q : Request) (r : Reply) (k : Key) → IsUnchanged plan item q r → PutsBy q k → ⊥

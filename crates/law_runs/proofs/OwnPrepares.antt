@@ -6,6 +6,7 @@ use Rattle.law_runs.specs.Types.{Access, Answer, Doing, Event, How, Next, Progre
 use Rattle.sdb_types.proofs.Public.{clash, id_fits, length_more, none_some, some_is}
 use Rattle.sdb_record.specs.Meta.{moment_in}
 use Rattle.sdb_record.specs.Names.{tx_prepared_at}
+use Rattle.sdb_model.specs.Catalogs.{catalog_after}
 use Rattle.sdb_model.specs.declared.answer.Answer.TheVariants as answer
 use Rattle.sdb_model.specs.declared.event.Event.TheVariants as event
 use Rattle.sdb_model.specs.Calls.{StoreCall, calls_of, clock_at, put_by}
@@ -112,7 +113,7 @@ taken_now q h d idle p here text takes = by (taken_as q text h d takes)
     by (inr (inl z)) = none_here (ap (λ (y : ClientAt). work_in y.vacuum y.txn) z.left)
     by (inr (inr z)) = none_here (ap (λ (y : ClientAt). work_in y.vacuum y.txn) z.left ∙ work_reads h.vacuum z.t z.access)
 
-takes_own : (w : WorldAt) (u : State) (c : ℕ) (text : List ℕ) (a : Option Answer) (t : TakeStep w.script (state_of w) c text a u) → Holds w → SoBy AreOwn WaitsOwn (w.events ++ event.Take c text a ∷ []) c (executed_of_take w.events text a) t.client a
+takes_own : (w : WorldAt) (u : State) (c : ℕ) (text : List ℕ) (a : Option Answer) (t : TakeStep w.script w.events (state_of w) c text a u) → Holds w → SoBy AreOwn WaitsOwn (w.events ++ event.Take c text a ∷ []) c (executed_of_take w.events text a) t.client a
 takes_own w u c text (Some b) t h = λ m id r has puts. none_in m (subst (λ (ms : List StoreCall). Contains ms m) (none_yet c w.events text (Some b)) has)
 takes_own w u c text None t h = by (work_in t.client.vacuum t.client.txn) refl
   where
@@ -131,7 +132,7 @@ takes_own w u c text None t h = by (work_in t.client.vacuum t.client.txn) refl
     by : (o : Option Work) → work_in t.client.vacuum t.client.txn ≡ o → PreparesBy o E c (executed_of_take w.events text None)
     by None e = λ m id r has puts. none_in m (none_of m has)
     by (Some p) e = (
-      taken_now (record { catalog = w.script.catalog; now = w.clock; gate = t.gate; fresh = next_id t.client_slot.client }) t.client_slot.client t.client t.idle p e text t.takes ∙ sym shows,
+      taken_now (record { catalog = catalog_after w.script.catalog w.events; now = w.clock; gate = t.gate; fresh = next_id t.client_slot.client }) t.client_slot.client t.client t.idle p e text t.takes ∙ sym shows,
       λ m id r has puts. none_in m (none_of m has),
     )
 
@@ -266,8 +267,8 @@ own_kept = record {
   answered = λ catalog. past_own;
   waiting = λ catalog events e c s h still so. still_by events e c s (work_in h.vacuum h.txn) still so;
   takes = takes_own;
-  calls = λ w u c store q how r a t h k x waiting waits so. call_own w.script.catalog w.events c t.client_slot.client t.client store q how r w.clock k x waiting waits so a
-      (call_of w.script.catalog w.events c t.client_slot.client k x waiting q r w.clock a t.client t.pending (h.world.each t.place t.client_slot t.at).fitted t.takes);
+  calls = λ w u c store q how r a t h k runs x waiting waits so. call_own w.script.catalog w.events c t.client_slot.client t.client store q how r w.clock k x waiting waits so a
+      (call_of w.script.catalog w.events c t.client_slot.client k runs x waiting q r w.clock a t.client t.pending ((h.world.each t.place t.client_slot t.at).fitted t.goes_on) t.takes);
 }
 
 -- the COMMIT that waits is one of its transaction

@@ -1,5 +1,5 @@
 -- No text in an execution of statements without an LF has one, where the stores held nothing of its tables.
-use Rattle.std.proofs.Common.{◌≡◌, ◌⊎◌, inl, inr, ℕ, zero, suc, true, List, [], ◌∷◌, Option, Some, None, IfSome, slice_get, slice_set, refl, sym, ap, subst, ◌∙◌}
+use Rattle.std.proofs.Common.{◌≡◌, ◌⊎◌, inl, inr, ℕ, zero, suc, true, List, [], ◌∷◌, ◌++◌, Option, Some, None, IfSome, slice_get, slice_set, refl, sym, ap, subst, ◌∙◌}
 use Rattle.std.specs.List.{AllByRecursion}
 use Rattle.std.specs.FinMap.{empty}
 use Rattle.sdb_types.specs.Contents.{Contents}
@@ -29,6 +29,7 @@ EventClear (event.Call client store q how r given) = RequestClear q × ReplyClea
 EventClear (event.Stop client) = Unit {0}
 EventClear (event.Clock moment) = Unit {0}
 EventClear (event.Idle client) = Unit {0}
+EventClear (event.Alter table column kind altered) = Unit {0}
 EventClear (event.Land number store q how r) = RequestClear q × ReplyClear r × ((how ≡ Seen) ⊎ (how ≡ Broken))
 
 abbrev SeatClear : ClientSlot → Type 0
@@ -77,8 +78,8 @@ record StepClear (e : Event) (u : State) : Type 0 where
   client_slots : SeatsClear u.client_slots
   flights : LateClear u.flights
 
-take_clear : (script : Script) (s u : State) (c : ℕ) (text : List ℕ) (a : Option Answer) → HasLines script → TakeStep script s c text a u → SeatsClear s.client_slots → LateClear s.flights → StepClear (event.Take c text a) u
-take_clear script s u c text a lines t h late =
+take_clear : (script : Script) (past : List Event) (s u : State) (c : ℕ) (text : List ℕ) (a : Option Answer) → HasLines script → TakeStep script past s c text a u → SeatsClear s.client_slots → LateClear s.flights → StepClear (event.Take c text a) u
+take_clear script past s u c text a lines t h late =
     let one : is_one_line text ≡ true = lines c t.client_slot.accepted text t.next in
     let so = takes_clear _ text t.client_slot.client one t.idle (get_all SeatClear s.client_slots t.place t.client_slot h t.at) a t.client t.takes in
     record { event = (one, so.answer); client_slots = state_clear s u t.place (client_after t.client_slot 1 t.client) s.flights t.left h so.client; flights = subst (λ (x : State). LateClear x.flights) (sym t.left) late }
@@ -129,28 +130,30 @@ module _ (script : Script) (lines : HasLines script) (name : Name) where
   more_clear : (e : Event) (es : List Event) (last : Contents) → EventClear e → AllClear es last → AllClear (e ∷ es) last
   more_clear e es last h k = record { events = (h, k.events); held = k.held }
 
-  path_clear : (es : List Event) (s t : State) (m last : Contents) (singles : List (List StoreContents)) → IsPath script s es t → On es (one_store name m) singles last → SeatsClear s.client_slots → LateClear s.flights → HeldClear m → AllClear es last
-  path_clear [] s t m last [] p h client_slots late held = record { events = tt; held = subst HeldClear (sym (same_contents name m last h)) held }
-  path_clear [] s t m last (x ∷ xs) p h client_slots late held = absurd h
-  path_clear (e ∷ es) s t m last [] p h client_slots late held = absurd h
-  path_clear (event.Take c text a ∷ es) s t m last (x ∷ xs) p h client_slots late held =
-      let so = take_clear script s p.0 c text a lines p.1 client_slots late in
-      more_clear (event.Take c text a) es last so.event (path_clear es p.0 t m last xs p.2 (subst (λ (b : List StoreContents). On es b xs last) h.0 h.1) so.client_slots so.flights held)
-  path_clear (event.Call c store q how r a ∷ es) s t m last (x ∷ xs) p h client_slots late held =
+  path_clear : (past es : List Event) (s t : State) (m last : Contents) (singles : List (List StoreContents)) → IsPath script past s es t → On es (one_store name m) singles last → SeatsClear s.client_slots → LateClear s.flights → HeldClear m → AllClear es last
+  path_clear past [] s t m last [] p h client_slots late held = record { events = tt; held = subst HeldClear (sym (same_contents name m last h)) held }
+  path_clear past [] s t m last (x ∷ xs) p h client_slots late held = absurd h
+  path_clear past (e ∷ es) s t m last [] p h client_slots late held = absurd h
+  path_clear past (event.Take c text a ∷ es) s t m last (x ∷ xs) p h client_slots late held =
+      let so = take_clear script past s p.0 c text a lines p.1 client_slots late in
+      more_clear (event.Take c text a) es last so.event (path_clear (past ++ event.Take c text a ∷ []) es p.0 t m last xs p.2 (subst (λ (b : List StoreContents). On es b xs last) h.0 h.1) so.client_slots so.flights held)
+  path_clear past (event.Call c store q how r a ∷ es) s t m last (x ∷ xs) p h client_slots late held =
       let o = one_call name q how r m x (asked_clear s p.0 c q how r a p.1 client_slots) held h.0 in
       let so = call_clear s p.0 c store q how r a p.1 client_slots late o.clear.reply in
-      more_clear (event.Call c store q how r a) es last so.event (path_clear es p.0 t o.left last xs p.2 (subst (λ (b : List StoreContents). On es b xs last) o.same h.1) so.client_slots so.flights o.clear.left)
-  path_clear (event.Stop c ∷ es) s t m last (x ∷ xs) p h client_slots late held =
+      more_clear (event.Call c store q how r a) es last so.event (path_clear (past ++ event.Call c store q how r a ∷ []) es p.0 t o.left last xs p.2 (subst (λ (b : List StoreContents). On es b xs last) o.same h.1) so.client_slots so.flights o.clear.left)
+  path_clear past (event.Stop c ∷ es) s t m last (x ∷ xs) p h client_slots late held =
       let stopped = state_clear s p.0 p.1.place (client_stopped p.1.client_slot) s.flights p.1.left client_slots (get_all SeatClear s.client_slots p.1.place p.1.client_slot client_slots p.1.at) in
-      more_clear (event.Stop c) es last tt (path_clear es p.0 t m last xs p.2 (subst (λ (b : List StoreContents). On es b xs last) h.0 h.1) stopped (subst (λ (y : State). LateClear y.flights) (sym p.1.left) late) held)
-  path_clear (event.Clock moment ∷ es) s t m last (x ∷ xs) p h client_slots late held =
-      more_clear (event.Clock moment) es last tt (path_clear es p.0 t m last xs p.2 (subst (λ (b : List StoreContents). On es b xs last) h.0 h.1) (subst (λ (y : State). SeatsClear y.client_slots) (sym p.1.1) client_slots) (subst (λ (y : State). LateClear y.flights) (sym p.1.1) late) held)
-  path_clear (event.Idle c ∷ es) s t m last (x ∷ xs) p h client_slots late held =
-      more_clear (event.Idle c) es last tt (path_clear es p.0 t m last xs p.2 (subst (λ (b : List StoreContents). On es b xs last) h.0 h.1) (subst (λ (y : State). SeatsClear y.client_slots) (sym p.1) client_slots) (subst (λ (y : State). LateClear y.flights) (sym p.1) late) held)
-  path_clear (event.Land number store q how r ∷ es) s t m last (x ∷ xs) p h client_slots late held =
+      more_clear (event.Stop c) es last tt (path_clear (past ++ event.Stop c ∷ []) es p.0 t m last xs p.2 (subst (λ (b : List StoreContents). On es b xs last) h.0 h.1) stopped (subst (λ (y : State). LateClear y.flights) (sym p.1.left) late) held)
+  path_clear past (event.Clock moment ∷ es) s t m last (x ∷ xs) p h client_slots late held =
+      more_clear (event.Clock moment) es last tt (path_clear (past ++ event.Clock moment ∷ []) es p.0 t m last xs p.2 (subst (λ (b : List StoreContents). On es b xs last) h.0 h.1) (subst (λ (y : State). SeatsClear y.client_slots) (sym p.1.1) client_slots) (subst (λ (y : State). LateClear y.flights) (sym p.1.1) late) held)
+  path_clear past (event.Idle c ∷ es) s t m last (x ∷ xs) p h client_slots late held =
+      more_clear (event.Idle c) es last tt (path_clear (past ++ event.Idle c ∷ []) es p.0 t m last xs p.2 (subst (λ (b : List StoreContents). On es b xs last) h.0 h.1) (subst (λ (y : State). SeatsClear y.client_slots) (sym p.1) client_slots) (subst (λ (y : State). LateClear y.flights) (sym p.1) late) held)
+  path_clear past (event.Alter table column kind altered ∷ es) s t m last (x ∷ xs) p h client_slots late held =
+      more_clear (event.Alter table column kind altered) es last tt (path_clear (past ++ event.Alter table column kind altered ∷ []) es p.0 t m last xs p.2 (subst (λ (b : List StoreContents). On es b xs last) h.0 h.1) (subst (λ (y : State). SeatsClear y.client_slots) (sym p.1.1) client_slots) (subst (λ (y : State). LateClear y.flights) (sym p.1.1) late) held)
+  path_clear past (event.Land number store q how r ∷ es) s t m last (x ∷ xs) p h client_slots late held =
       let asked : RequestClear q = get_all (λ (o : Option Request). IfSome o RequestClear) s.flights p.1.place (Some q) late p.1.at in
       let o = one_call name q how r m x asked held h.0 in
-      more_clear (event.Land number store q how r) es last (asked, o.clear.reply, landed_how how r p.1.allowed) (path_clear es p.0 t o.left last xs p.2 (subst (λ (b : List StoreContents). On es b xs last) o.same h.1) (subst (λ (y : State). SeatsClear y.client_slots) (sym p.1.left) client_slots) (subst (λ (y : State). LateClear y.flights) (sym p.1.left) (lands_clear s.flights p.1.place late)) o.clear.left)
+      more_clear (event.Land number store q how r) es last (asked, o.clear.reply, landed_how how r p.1.allowed) (path_clear (past ++ event.Land number store q how r ∷ []) es p.0 t o.left last xs p.2 (subst (λ (b : List StoreContents). On es b xs last) o.same h.1) (subst (λ (y : State). SeatsClear y.client_slots) (sym p.1.left) client_slots) (subst (λ (y : State). LateClear y.flights) (sym p.1.left) (lands_clear s.flights p.1.place late)) o.clear.left)
 
 -- the one store that holds what the stores of a trace hold, and all of its execution
 pub record WholeClear (x : ExecutionOf) (closing : List StoreContents) : Type 0 where
@@ -165,5 +168,5 @@ execution_clear x t lines =
     record {
       last = s.last;
       same = s.same;
-      clear = path_clear x.script lines [] x.events x.execution.first x.execution.last empty s.last s.singles x.execution.path s.traced (fresh_clear _ x.execution.first.client_slots x.execution.initial.fresh) (subst LateClear (sym x.execution.initial.none_late) tt) nothing_held;
+      clear = path_clear x.script lines [] [] x.events x.execution.first x.execution.last empty s.last s.singles x.execution.path s.traced (fresh_clear _ x.execution.first.client_slots x.execution.initial.fresh) (subst LateClear (sym x.execution.initial.none_late) tt) nothing_held;
     }

@@ -20,6 +20,7 @@ use Rattle.sdb_record.specs.Rolls.{forward_record, image_of, image_under, row_of
 use Rattle.sdb_schema.specs.Catalog.{rises, is_above_name}
 use Rattle.sdb_model.specs.declared.answer.Answer.TheVariants as answer
 use Rattle.sdb_model.specs.declared.event.Event.TheVariants as event
+use Rattle.sdb_model.specs.Catalogs.{catalog_after}
 use Rattle.sdb_model.specs.Events.{StoreContents, stored_at}
 use Rattle.sdb_model.specs.Exec.{Tables, all_rows, find_table, is_row_of, projected, sorted}
 use Rattle.sdb_model.specs.Images.{decision_on, row_at}
@@ -38,6 +39,7 @@ use Rattle.law_runs.proofs.PlainStatements.{AnswerClear, FoundAt, ImageClear, sh
 use Rattle.law_runs.proofs.Contents.{HeldClear, TablesClear, rows_clear}
 use Rattle.law_runs.proofs.Paths.{EventClear, WholeClear, execution_clear}
 use Rattle.sdb_model.specs.Tables.{is_table_of_run}
+use Rattle.sdb_model.proofs.Public.{after_is}
 
 ---- no LF, in the words of reports
 
@@ -112,6 +114,7 @@ event_none (event.Stop c) h = tt
 event_none (event.Clock m) h = tt
 event_none (event.Idle c) h = tt
 event_none (event.Land n store q how r) h = (request_none q h.0, reply_none r h.1)
+event_none (event.Alter table column kind altered) h = tt
 
 events_none : (es : List Event) → AllByRecursion EventClear es → AllByRecursion EventHasNoLf es
 events_none [] h = tt
@@ -155,6 +158,7 @@ parts_plain (event.Stop c) fits h = fits
 parts_plain (event.Clock m) fits h = fits
 parts_plain (event.Idle c) fits h = fits
 parts_plain (event.Land n store q how r) fits h = (fits.0, fits.1, fits.2, fits.3, h.2)
+parts_plain (event.Alter table column kind altered) fits h = fits
 
 event_plain : (e : Event) → event_fits e → EventClear e → IsPlainEvent e
 event_plain e fits h = let parts = parts_plain e fits h in record { parts = parts; one_line = event_one e parts (event_none e h) }
@@ -240,10 +244,14 @@ module _ (r : LineRun) (fits : outcome_fits r.outcome) where
   whole = execution_clear execution (record { opening = r.opening; closing = r.closing; moments = r.run.moments; trace = r.run.consistent; nothing = r.nothing }) r.lines
 
   abbrev final : Tables
-  final = (serial r.script.catalog r.run.answered.bodies empty).1
+  final = (serial r.script.catalog r.run.answered.steps empty).1
 
-  printed_clear : AllByRecursion DumpClear (dumps_of r.script.catalog final)
-  printed_clear = dumps_clear final (tables_clear r.script.catalog r.script.places r.closing whole.last whole.same whole.clear.held final r.run.answered.images) r.script.catalog
+  -- the tables with the columns that were added
+  abbrev tables : List Table
+  tables = catalog_after r.script.catalog r.outcome.events
+
+  printed_clear : AllByRecursion DumpClear (dumps_of tables final)
+  printed_clear = dumps_clear final (tables_clear r.script.catalog r.script.places r.closing whole.last whole.same whole.clear.held final r.run.answered.images) tables
 
   pub run_plain : IsPlain r.outcome
   run_plain = record {
@@ -253,5 +261,5 @@ module _ (r : LineRun) (fits : outcome_fits r.outcome) where
     order = fits.order;
     tables_counted = fits.tables_counted;
     tables = All-from_recursion IsPlainDump r.outcome.tables (dumps_plain r.outcome.tables (recursion_from_All dump_fits r.outcome.tables fits.tables) (subst (λ (ds : List TableDump). AllByRecursion DumpClear ds) (sym r.run.answered.printed) printed_clear));
-    rising = ap are_rising r.run.answered.printed ∙ dumps_rise final r.script.catalog (and_first (rises r.script.catalog) _ r.playable.catalog);
+    rising = ap are_rising r.run.answered.printed ∙ dumps_rise final tables (and_first (rises tables) _ (after_is r.script.catalog r.outcome.events r.playable.catalog));
   }

@@ -59,6 +59,7 @@ module _ (at : Name → Name) where
   made_moved c n (event.Clock m) ms = refl
   made_moved c n (event.Idle d) ms = refl
   made_moved c n (event.Land x store q how r) ms = refl
+  made_moved c n (event.Alter table column kind altered) ms = refl
 
   calls_from : (c n : ℕ) (es : List Event) → filter_map (made_by c) (enumerate_from n (relocated_events at es)) ≡ map moved_made (filter_map (made_by c) (enumerate_from n es))
   calls_from c n [] = refl

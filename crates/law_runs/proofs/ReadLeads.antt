@@ -20,7 +20,7 @@ use Rattle.law_clients.proofs.Public.{access_table, found_itself, own_table}
 use Rattle.law_answers.specs.Invariant.{IsWaiting}
 use Rattle.law_answers.specs.Reads.{LedBy}
 use Rattle.law_answers.proofs.Public.{calls_open, clock_more, end_waiting, IsDataTable, later_within, LeavesData, made_at, reads_on}
-use Rattle.law_runs.proofs.Replies.{ReadCall}
+use Rattle.law_runs.proofs.Replies.{ReadCall, listed_call}
 
 module _ (catalog : List Table) (apart : (k : Key) → is_some (find_table catalog k.table) ≡ true → is_data k ≡ true) (events : List Event) (c : ℕ) (h d : ClientAt) (x : Executed) (waits : IsWaiting catalog events c (is_some h.vacuum) x)
     (store : Name) (q : Request) (how : How) (r : Reply) (now : ℤ) (ticks : clock_at events (length events) ≡ now) (about : IsOfTables catalog h) (can : CanAnswer q r) (a : Option Answer) (z : ReadCall catalog events c x h q r now a d) where
@@ -47,7 +47,7 @@ module _ (catalog : List Table) (apart : (k : Key) → is_some (find_table catal
   pub reads_data : IsDataTable (access_table z.access)
   reads_data =
       subst IsDataTable (sym (ap access_table z.asked.access ∙ own_table z.p.table z.p.statement))
-      (apart (record { table = z.p.table.name; partition = []; clustering = [] }) (ap is_some (found_itself catalog (table_of z.p.statement) z.p.table z.asked.named)))
+      (apart (record { table = z.p.table.name; partition = []; clustering = [] }) (listed_call catalog events x z.tables z.p.table.name z.under (ap is_some (found_itself z.tables (table_of z.p.statement) z.p.table z.asked.named))))
 
   read_in : IsReadIn catalog z.p z.access z.x
   read_in =

@@ -252,8 +252,8 @@ few_kept = record {
   answered = λ catalog events e c s past so. (λ f g. subst ReadsOnce (sym past.calls) (so.0 f g), λ z. past.calls ∙ so.1 z);
   waiting = λ catalog events e c s h still so. (λ f g. subst (TxnReads h.txn) (sym still.calls) (so.0 f g), λ z. still.calls ∙ so.1 z);
   takes = λ w u c text a t h. take_few w.events c text a t.client;
-  calls = λ w u c store q how r a t h k x waiting waits so. call_few w.script.catalog w.events c t.client_slot.client t.client store q how r w.clock k.entries x waits so a
-      (call_of w.script.catalog w.events c t.client_slot.client k x waiting q r w.clock a t.client t.pending (h.world.each t.place t.client_slot t.at).fitted t.takes);
+  calls = λ w u c store q how r a t h k runs x waiting waits so. call_few w.script.catalog w.events c t.client_slot.client t.client store q how r w.clock k.entries x waits so a
+      (call_of w.script.catalog w.events c t.client_slot.client k runs x waiting q r w.clock a t.client t.pending ((h.world.each t.place t.client_slot t.at).fitted t.goes_on) t.takes);
 }
 
 -- A statement of an execution that reads reads rows once, and BEGIN and ROLLBACK make no call.

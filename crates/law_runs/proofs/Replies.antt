@@ -1,9 +1,14 @@
 -- The call that a client makes, and what its reply comes to, by what the client does.
-use Rattle.std.proofs.Common.{◌≡◌, ◌⊎◌, inl, inr, ℕ, ℤ, List, Option, Some, None, IfSome, refl, subst}
+use Rattle.std.proofs.Common.{◌≡◌, ◌⊎◌, inl, inr, ℕ, ℤ, true, List, Option, Some, None, IfSome, refl, sym, ap, subst, ◌∙◌}
 use Rattle.std.specs.List.{AllByRecursion}
 use Rattle.sdb_types.proofs.Public.{none_some}
-use Rattle.law_runs.specs.Types.{Access, Answer, Doing, Event, Next, Progress, Reply, Request, Table}
+use Rattle.std.specs.Prelude.{is_some}
+use Rattle.law_runs.specs.Types.{Access, Answer, Doing, Event, Next, Progress, Reply, Request, Table, TableName}
 use Rattle.sdb_model.specs.Calls.{calls_of}
+use Rattle.sdb_model.specs.Catalogs.{catalog_after}
+use Rattle.sdb_model.specs.Causes.{before}
+use Rattle.sdb_model.specs.Exec.{find_table}
+use Rattle.sdb_model.proofs.Public.{same_tables}
 use Rattle.sdb_model.specs.Transactions.{Executed, id_of}
 use Rattle.sdb_exec.specs.Plans.{Planned}
 use Rattle.sdb_txn.specs.Phases.{CommitAt}
@@ -19,7 +24,7 @@ use Rattle.sdb_record.specs.Rolls.{IsWrite}
 use Rattle.law_clients.specs.States.{IsAskedBy, IsFitted, IsFittedBy, IsUsing, IsUsingTxn}
 use Rattle.law_answers.specs.Counts.{DoingCounted, OpenCounted, WaitCounted, read_items_since}
 use Rattle.law_answers.specs.Vacuums.{VacuumBy}
-use Rattle.law_answers.specs.Invariant.{IsCommitting, IsDoing, IsOpenAs, IsReading, Knows, DoingByHistory, ClientByHistory}
+use Rattle.law_answers.specs.Invariant.{IsCommitting, IsCurrent, IsDoing, IsOpenAs, IsReading, Knows, DoingByHistory, ClientByHistory}
 
 -- A client that waits for a statement has none without an answer.
 pub idle_rests : (catalog : List Table) (events : List Event) (c : ℕ) (h : ClientAt) (k : Knows catalog events c h) → IsIdle h → k.waiting ≡ None
@@ -62,7 +67,7 @@ pub record SweepCall (events : List Event) (c : ℕ) (w : Executed) (h : ClientA
   pub answered : VacuumPost v r now a d.vacuum
   pub left : d ≡ record h { vacuum = d.vacuum }
 
--- It is a call of a statement that reads.
+-- It is a call of a statement that reads, under the tables with which it was accepted.
 pub record ReadCall (catalog : List Table) (events : List Event) (c : ℕ) (w : Executed) (h : ClientAt) (q : Request) (r : Reply) (now : ℤ) (a : Option Answer) (d : ClientAt) : Type 0 where
   pub t : TxnAt
   pub p : Planned
@@ -73,7 +78,9 @@ pub record ReadCall (catalog : List Table) (events : List Event) (c : ℕ) (w : 
   pub plan : h.plan ≡ Some p
   pub reads : t.doing ≡ doing.Read access x
   pub is : IsReading events c w p x
-  pub asked : IsAskedBy catalog p access x
+  pub tables : List Table
+  pub under : catalog_after catalog (before w events) ≡ tables
+  pub asked : IsAskedBy tables p access x
   pub pends : read_pending x ≡ Some q
   pub next : Next
   pub u : TxnAt
@@ -101,14 +108,27 @@ pub record CommitCall (events : List Event) (c : ℕ) (told_so : List Executed) 
 abbrev pub CallOf : List Table → List Event → ℕ → List Executed → Executed → ClientAt → Request → Reply → ℤ → Option Answer → ClientAt → Type 0
 CallOf catalog events c answered w h q r now a d = SweepCall events c w h q r now a d ⊎ ReadCall catalog events c w h q r now a d ⊎ CommitCall events c answered w h q r a d
 
-pub call_of : (catalog : List Table) (events : List Event) (c : ℕ) (h : ClientAt) (k : Knows catalog events c h) (w : Executed) → k.waiting ≡ Some w → (q : Request) (r : Reply) (now : ℤ) (a : Option Answer) (d : ClientAt) → client_pending h ≡ Some q → IsFitted catalog h → Step h (Receives q r now) a d → CallOf catalog events c k.entries w h q r now a d
-call_of catalog events c h k w waits q r now a d pending fitted answered = by_vacuum h.vacuum refl (subst (λ (o : Option Executed). ClientByHistory events c h.begun k.entries o h.plan h.txn h.vacuum) waits k.agrees) pending (reply_of_step h q r now a d answered).1
+-- it was accepted under those, and a key of one of them is of one of the catalog's
+pub listed_call : (catalog : List Table) (events : List Event) (w : Executed) (tables : List Table) (n : TableName) → catalog_after catalog (before w events) ≡ tables → is_some (find_table tables n) ≡ true → is_some (find_table catalog n) ≡ true
+listed_call catalog events w tables n under listed = sym (same_tables catalog (before w events) n) ∙ ap (λ (ts : List Table). is_some (find_table ts n)) under ∙ listed
+
+pub call_of : (catalog : List Table) (events : List Event) (c : ℕ) (h : ClientAt) (k : Knows catalog events c h) → IsCurrent catalog events h.txn k.under → (w : Executed) → k.waiting ≡ Some w → (q : Request) (r : Reply) (now : ℤ) (a : Option Answer) (d : ClientAt) → client_pending h ≡ Some q → IsFitted (catalog_after catalog events) h → Step h (Receives q r now) a d → CallOf catalog events c k.entries w h q r now a d
+call_of catalog events c h k runs w waits q r now a d pending fitted answered = by_vacuum h.vacuum refl (subst (λ (o : Option Executed). ClientByHistory events c h.begun k.entries o h.plan h.txn h.vacuum) waits k.agrees) pending (reply_of_step h q r now a d answered).1
   where
-    asked_of : (t : TxnAt) (access : Access) (x : ReadAt) (p : Planned) → h.vacuum ≡ None → h.txn ≡ Some t → h.plan ≡ Some p → t.doing ≡ doing.Read access x → IsAskedBy catalog p access x
+    tables : List Table
+    tables = catalog_after catalog events
+
+    asked_of : (t : TxnAt) (access : Access) (x : ReadAt) (p : Planned) → h.vacuum ≡ None → h.txn ≡ Some t → h.plan ≡ Some p → t.doing ≡ doing.Read access x → IsAskedBy tables p access x
     asked_of t access x p free opened plan does =
-        let open_fit : IsUsingTxn catalog h.txn h.plan = subst (λ (v : Option VacuumAt). IsFittedBy catalog v h) free fitted in
-        let using : IsUsing catalog t.doing h.plan = subst (λ (o : Option TxnAt). IsUsingTxn catalog o h.plan) opened open_fit in
-        subst (IsUsing catalog (doing.Read access x)) plan (subst (λ (y : Doing). IsUsing catalog y h.plan) does using)
+        let open_fit : IsUsingTxn tables h.txn h.plan = subst (λ (v : Option VacuumAt). IsFittedBy tables v h) free fitted in
+        let using : IsUsing tables t.doing h.plan = subst (λ (o : Option TxnAt). IsUsingTxn tables o h.plan) opened open_fit in
+        subst (IsUsing tables (doing.Read access x)) plan (subst (λ (y : Doing). IsUsing tables y h.plan) does using)
+
+    -- it was accepted under the catalog with which its transaction runs
+    under_of : (t : TxnAt) → h.txn ≡ Some t → catalog_after catalog (before w events) ≡ tables
+    under_of t opened =
+        subst (λ (o : Option Executed). IfSome o (λ y. catalog_after catalog (before y events) ≡ k.under)) waits k.asked
+        ∙ subst (λ (o : Option TxnAt). IsCurrent catalog events o k.under) opened runs
 
     writes_of : (t : TxnAt) (x : CommitAt) → h.vacuum ≡ None → h.txn ≡ Some t → t.doing ≡ doing.Commit x → AllByRecursion IsWrite x.work.writes
     writes_of t x free opened does =
@@ -131,6 +151,8 @@ call_of catalog events c h k w waits q r now a d pending fitted answered = by_va
       plan = plan;
       reads = does;
       is = i;
+      tables = tables;
+      under = under_of t opened;
       asked = asked_of t access x p free opened plan does;
       pends = e;
       next = n;

@@ -11,14 +11,15 @@ use Rattle.law_runs.specs.Types.{Answer, Event, Key, Record, Span, Statement, Ta
 use Rattle.sdb_types.specs.Order.{key_cmp}
 use Rattle.sdb_types.proofs.Public.{clash, map_last, or_false}
 use Rattle.sdb_model.specs.Calls.{calls_of}
+use Rattle.sdb_model.specs.Catalogs.{catalog_after}
 use Rattle.sdb_model.specs.ReadSet.{has_finished}
 use Rattle.sdb_model.specs.Sql.{Reads}
 use Rattle.sdb_model.specs.Transactions.{Executed, ends, from_begin, is_effective, rest_of}
 use Rattle.sdb_snapshot.specs.Seen.{Seen, is_scanned, nothing}
 use Rattle.law_answers.specs.Counts.{ArePaired}
 use Rattle.law_answers.specs.Invariant.{IsAnswered, begun_in, open_after}
-use Rattle.law_answers.proofs.Public.{calls_stay, each_kept, filter_same, open_only, since_all, since_more, since_none, take_ends, take_open}
-use Rattle.law_runs.specs.Found.{AllRunAs, IsRunOnFound, RunsAs, View, exec_on, finds, found_by, is_answered, meets_misfit, takes_part, nothing_found, run_on_found, run_one, scans_span, was_scanned, with_found}
+use Rattle.law_answers.proofs.Public.{before_same, calls_stay, each_kept, filter_same, open_only, since_all, since_more, since_none, take_ends, take_open}
+use Rattle.law_runs.specs.Found.{AllRunAs, AreUnder, IsRunOnFound, RunsAs, RunsUnder, View, exec_on, finds, found_by, is_answered, meets_misfit, takes_part, nothing_found, run_on_found, run_one, scans_span, was_scanned, with_found}
 use Rattle.law_clients.specs.Keys.{keys_written, with_keys}
 use Rattle.law_runs.specs.Written.{keys_of, written_on_found}
 use Rattle.law_runs.proofs.Views.{IsViewOf}
@@ -255,17 +256,36 @@ scanned_stays catalog events e c (s ∷ ss) span all =
 pub scanned_more : (events : List Event) (c : ℕ) (ss : List Executed) (z : Executed) (span : Span) → was_scanned events c (ss ++ z ∷ []) span ≡ (was_scanned events c ss span || scans_span span (calls_of events c z))
 scanned_more events c ss z span = list_any-append (λ (s : Executed). scans_span span (calls_of events c s)) ss (z ∷ []) ∙ ap (λ b. was_scanned events c ss span || b) (or_false (scans_span span (calls_of events c z)))
 
-pub run_stays : (catalog : List Table) (events : List Event) (e : Event) (c : ℕ) (ss : List Executed) → AllByRecursion (IsAnswered catalog events c) ss → IsRunOnFound catalog events c ss → IsRunOnFound catalog (events ++ e ∷ []) c ss
-run_stays catalog events e c ss all r = record { statements = r.statements; run = r.run; answers = r.answers ∙ ap (λ fs. map Some (run_on_found catalog fs r.statements nothing_found).0) (sym (finds_stay catalog events e c ss all)) }
+pub run_stays : (catalog under : List Table) (events : List Event) (e : Event) (c : ℕ) (ss : List Executed) → AllByRecursion (IsAnswered catalog events c) ss → IsRunOnFound under events c ss → IsRunOnFound under (events ++ e ∷ []) c ss
+run_stays catalog under events e c ss all r = record { statements = r.statements; run = r.run; answers = r.answers ∙ ap (λ fs. map Some (run_on_found under fs r.statements nothing_found).0) (sym (finds_stay catalog events e c ss all)) }
 
-pub runs_stay : (catalog : List Table) (events : List Event) (e : Event) (c : ℕ) (ss : List Executed) (s : Seen) → AllByRecursion (IsAnswered catalog events c) ss → RunsTo catalog events c ss s → RunsTo catalog (events ++ e ∷ []) c ss s
+pub runs_stay : (catalog under : List Table) (events : List Event) (e : Event) (c : ℕ) (ss : List Executed) (s : Seen) → AllByRecursion (IsAnswered catalog events c) ss → RunsTo under events c ss s → RunsTo under (events ++ e ∷ []) c ss s
 unfolding run_stays
-runs_stay catalog events e c ss s all r = record {
-  run = run_stays catalog events e c ss all r.run;
-  sees = subst (λ fs. IsViewOf catalog (run_on_found catalog fs r.run.statements nothing_found).1 s) (sym (finds_stay catalog events e c ss all)) r.sees;
+runs_stay catalog under events e c ss s all r = record {
+  run = run_stays catalog under events e c ss all r.run;
+  sees = subst (λ fs. IsViewOf under (run_on_found under fs r.run.statements nothing_found).1 s) (sym (finds_stay catalog events e c ss all)) r.sees;
   scans = λ span is. r.scans span (sym (scanned_stays catalog events e c ss span all) ∙ is);
-  writes = r.writes ∙ ap (λ fs. written_on_found catalog fs r.run.statements nothing_found []) (sym (finds_stay catalog events e c ss all));
+  writes = r.writes ∙ ap (λ fs. written_on_found under fs r.run.statements nothing_found []) (sym (finds_stay catalog events e c ss all));
 }
+
+---- the catalog with which statements were accepted
+
+-- it stays so, and was so
+pub under_stays : (catalog : List Table) (events : List Event) (e : Event) (c : ℕ) (under : List Table) (ss : List Executed) → AllByRecursion (IsAnswered catalog events c) ss → AreUnder catalog events under ss → AreUnder catalog (events ++ e ∷ []) under ss
+under_stays catalog events e c under [] all h = tt
+under_stays catalog events e c under (s ∷ ss) all h = (ap (catalog_after catalog) (before_same s events e all.0.accepted) ∙ h.0, under_stays catalog events e c under ss all.1 h.1)
+
+pub under_was : (catalog : List Table) (events : List Event) (e : Event) (c : ℕ) (under : List Table) (ss : List Executed) → AllByRecursion (IsAnswered catalog events c) ss → AreUnder catalog (events ++ e ∷ []) under ss → AreUnder catalog events under ss
+under_was catalog events e c under [] all h = tt
+under_was catalog events e c under (s ∷ ss) all h = (sym (ap (catalog_after catalog) (before_same s events e all.0.accepted)) ∙ h.0, under_was catalog events e c under ss all.1 h.1)
+
+pub runs_under_stay : (catalog : List Table) (events : List Event) (e : Event) (c : ℕ) (ss : List Executed) → AllByRecursion (IsAnswered catalog events c) ss → RunsUnder catalog events c ss → RunsUnder catalog (events ++ e ∷ []) c ss
+runs_under_stay catalog events e c ss all r = (r.0, under_stays catalog events e c r.0 ss all r.1, run_stays catalog r.0 events e c ss all r.2)
+
+-- there is only one, where there is a statement
+pub keys_one : (catalog : List Table) (events : List Event) (c : ℕ) (ss : List Executed) (statements : List (Option Statement)) (one other : List Table) → AreUnder catalog events one ss → AreUnder catalog events other ss → keys_of one events c ss statements ≡ keys_of other events c ss statements
+keys_one catalog events c [] statements one other h g = refl
+keys_one catalog events c (s ∷ ss) statements one other h g = ap (λ (ts : List Table). keys_of ts events c (s ∷ ss) statements) (sym h.0 ∙ g.0)
 
 ---- each transaction of a client
 

@@ -26,11 +26,11 @@ pub record IsLawfulRun (places : List Place) (events : List Event) (opening : Li
   pub agrees : AgreesOnOpen labelled
 
 -- the trace, newest first
-turned : (catalog : List Table) (fit : Tables → Bool) (events : List Event) (sys : SystemAt) (doing : ℕ → Option Statement) (places : List Place) (opening end : List StoreContents) (moments : List (List StoreContents)) → (g : RunInvariant catalog fit events sys doing) → IsTrace places events opening moments end
+turned : (catalog : List Table) (fit : List Table → Tables → Bool) (events : List Event) (sys : SystemAt) (doing : ℕ → Option Statement) (places : List Place) (opening end : List StoreContents) (moments : List (List StoreContents)) → (g : RunInvariant catalog fit events sys doing) → IsTrace places events opening moments end
     → IsTraced places opening (newest_first g.labelled) (newest_first moments) × (closing opening (newest_first moments) ≡ end)
 turned catalog fit events sys doing places opening end moments g trace = traced_of places opening g.labelled moments end (subst (λ es. IsTrace places es opening moments end) g.same trace)
 
-pub lawful_run : (catalog : List Table) (fit : Tables → Bool) (events : List Event) (sys : SystemAt) (doing : ℕ → Option Statement) (places : List Place) (opening end : List StoreContents) (moments : List (List StoreContents)) → RunInvariant catalog fit events sys doing → IsTrace places events opening moments end → StartsEmpty places opening → IsLawfulRun places events opening moments
+pub lawful_run : (catalog : List Table) (fit : List Table → Tables → Bool) (events : List Event) (sys : SystemAt) (doing : ℕ → Option Statement) (places : List Place) (opening end : List StoreContents) (moments : List (List StoreContents)) → RunInvariant catalog fit events sys doing → IsTrace places events opening moments end → StartsEmpty places opening → IsLawfulRun places events opening moments
 lawful_run catalog fit events sys doing places opening end moments g trace empty = record {
   plan = g.plan;
   labelled = g.labelled;
@@ -53,7 +53,7 @@ pub record ByLaws (places : List Place) (events : List Event) (opening end : Lis
   pub run : IsRunOf plan places opening (newest_first labelled) held
   pub faithful : IsFaithful (events_of labelled) (newest_first labelled)
 
-pub by_laws : (catalog : List Table) (fit : Tables → Bool) (events : List Event) (sys : SystemAt) (doing : ℕ → Option Statement) (places : List Place) (opening end : List StoreContents) (moments : List (List StoreContents)) → RunInvariant catalog fit events sys doing → IsTrace places events opening moments end → StartsEmpty places opening → ByLaws places events opening end
+pub by_laws : (catalog : List Table) (fit : List Table → Tables → Bool) (events : List Event) (sys : SystemAt) (doing : ℕ → Option Statement) (places : List Place) (opening end : List StoreContents) (moments : List (List StoreContents)) → RunInvariant catalog fit events sys doing → IsTrace places events opening moments end → StartsEmpty places opening → ByLaws places events opening end
 by_laws catalog fit events sys doing places opening end moments g trace empty =
     let r = lawful_run catalog fit events sys doing places opening end moments g trace empty in
     record { plan = r.plan; labelled = r.labelled; held = newest_first moments; same = r.same; end_is = (turned catalog fit events sys doing places opening end moments g trace).1; run = r.run; faithful = r.faithful }

@@ -1,8 +1,9 @@
 -- The clients of a world, place by place.
-use Rattle.std.proofs.Common.{◌≡◌, ◌≢◌, ℕ, zero, suc, Bool, true, false, List, [], ◌∷◌, length, Option, Some, refl, ap, ◌∙◌, slice_set}
-use Rattle.std.specs.Prelude.{◌==◌, slice_get}
+use Rattle.std.proofs.Common.{◌≡◌, ◌≢◌, ℕ, zero, suc, Bool, true, false, List, [], ◌∷◌, length, Option, Some, None, IfSome, refl, ap, ◌∙◌, slice_set}
+use Rattle.std.specs.Prelude.{◌==◌, IsSomeAnd, is_some, slice_get}
 use Rattle.std.proofs.lemmas.Bool.{eqb-false, eqb-true, ne_eqb}
 use Rattle.law_protocol.specs.History.{at}
+use Rattle.law_clients.specs.States.{ClientState}
 use Rattle.sdb_client.specs.declared.slot.ClientSlot.{ClientSlot}
 use Rattle.law_runs.specs.World.{state_in, states_of}
 use Rattle.sdb_types.proofs.Public.{none_some}
@@ -30,6 +31,23 @@ set_length (z ∷ zs) (suc i) y = ap suc (set_length zs i y)
 
 pub suc_is : (i j : ℕ) → suc i ≡ suc j → i ≡ j
 suc_is i j e = cc
+
+-- a client that goes on has a transaction open, or runs VACUUM
+abbrev pub HasOpen : ClientState → Type 0
+HasOpen x = (x.stopped ≡ false) × (is_some x.client.txn ≡ true)
+
+abbrev pub RunsVacuum : ClientState → Type 0
+RunsVacuum x = (x.stopped ≡ false) × (is_some x.client.vacuum ≡ true)
+
+-- what is so of the client at a place is so of it by its number
+pub some_client : (P : ClientState → Type 0) (o : Option ClientSlot) (c : ℕ) → IsSomeAnd o (λ s. P (record { client = s.client; stopped = s.stopped })) → P (state_in o c)
+some_client P None c h = absurd h
+some_client P (Some s) c h = h
+
+-- what is so of it if there is one, and of a client that has done nothing
+pub each_client : (P : ClientState → Type 0) (o : Option ClientSlot) (c : ℕ) → P (state_in None c) → IfSome o (λ s. P (record { client = s.client; stopped = s.stopped })) → P (state_in o c)
+each_client P None c first h = first
+each_client P (Some s) c first h = h
 
 -- with one client elsewhere
 pub hands_moved : (client_slots : List ClientSlot) (i : ℕ) (s t : ClientSlot) (c : ℕ) → slice_get client_slots i ≡ Some s → states_of (slice_set client_slots i t) c ≡ at (states_of client_slots) (suc i) (record { client = t.client; stopped = t.stopped }) c

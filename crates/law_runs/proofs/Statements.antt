@@ -1,5 +1,5 @@
 -- What is so of each statement of a client, after each step of an execution.
-use Rattle.std.proofs.Common.{◌≡◌, ◌⊎◌, inl, inr, ◌<◌, ◌≤◌, ℕ, ℤ, zero, suc, ◌+◌, List, [], ◌∷◌, ◌++◌, length, Option, Some, None, IfSome, refl, sym, ap, subst, ◌∙◌, arith, append_assoc}
+use Rattle.std.proofs.Common.{◌≡◌, ◌⊎◌, inl, inr, ◌<◌, ◌≤◌, ℕ, ℤ, zero, suc, ◌+◌, false, List, [], ◌∷◌, ◌++◌, length, Option, Some, None, IfSome, refl, sym, ap, subst, ◌∙◌, arith, append_assoc}
 use Rattle.std.specs.Prelude.{Contains, is_some, slice_get, slice_set}
 use Rattle.std.proofs.lemmas.Bool.{ne_eqb}
 use Rattle.std.proofs.lemmas.List.{append-nil}
@@ -15,11 +15,13 @@ use Rattle.sdb_client.specs.Client.{ClientAt}
 use Rattle.law_clients.specs.States.{ClientState}
 use Rattle.law_clients.specs.History.{executed_with_answer, executed_of_take, waiting_of}
 use Rattle.law_clients.proofs.Public.{others_silent, executed_more, take_executed}
-use Rattle.law_answers.specs.Invariant.{IsAnswered, IsWaiting, Knows}
+use Rattle.law_answers.specs.Invariant.{IsAnswered, IsCurrent, IsWaiting, Knows}
 use Rattle.law_answers.proofs.Public.{call_executed, calls_open, calls_stay, calls_wait, clock_same, commit_stays, each_in, end_answered, end_waiting, Grows, later_calls, later_more, made_at, own_made, silent_executed}
 use Rattle.sdb_client.specs.Execution.{CallStep, IsExecution, IsPath, IsPlayable, IsStepFrom, State, TakeStep, client_after, client_stopped, flights_after}
 use Rattle.law_runs.specs.World.{WorldAt, state_in, states_of, state_of, with_event, with_client}
+use Rattle.law_runs.specs.Linked.{HaveCauses}
 use Rattle.law_runs.proofs.Kept.{by_nat}
+use Rattle.law_runs.proofs.Linked.{on_hand}
 use Rattle.law_runs.proofs.Replies.{idle_rests, pends_waits}
 use Rattle.law_runs.proofs.Slots.{set_here, set_other}
 use Rattle.law_runs.proofs.Steps.{Holds, at_place, first_holds, led, step_holds}
@@ -62,8 +64,8 @@ AllSo A W w = (c : ℕ) (s : Executed) → Contains (statements_by c w.events) s
 pub record AreKept (A : List Table → List Event → ℕ → Executed → Type 0) (W : List Table → List Event → ℕ → Executed → ClientAt → Type 0) : Type 0 where
   pub answered : (catalog : List Table) (events : List Event) (e : Event) (c : ℕ) (s : Executed) → IsPast events e c s → A catalog events c s → A catalog (events ++ e ∷ []) c s
   pub waiting : (catalog : List Table) (events : List Event) (e : Event) (c : ℕ) (s : Executed) (h : ClientAt) → IsStill events e c s → W catalog events c s h → W catalog (events ++ e ∷ []) c s h
-  pub takes : (w : WorldAt) (u : State) (c : ℕ) (text : List ℕ) (a : Option Answer) (t : TakeStep w.script (state_of w) c text a u) → Holds w → SoOver A W w.script.catalog (w.events ++ event.Take c text a ∷ []) c (executed_of_take w.events text a) t.client a
-  pub calls : (w : WorldAt) (u : State) (c : ℕ) (store : Name) (q : Request) (how : How) (r : Reply) (a : Option Answer) (t : CallStep (state_of w) c q how r a u) → Holds w → (k : Knows w.script.catalog w.events c t.client_slot.client) (x : Executed) → k.waiting ≡ Some x → IsWaiting w.script.catalog w.events c (is_some t.client_slot.client.vacuum) x → W w.script.catalog w.events c x t.client_slot.client
+  pub takes : (w : WorldAt) (u : State) (c : ℕ) (text : List ℕ) (a : Option Answer) (t : TakeStep w.script w.events (state_of w) c text a u) → Holds w → SoOver A W w.script.catalog (w.events ++ event.Take c text a ∷ []) c (executed_of_take w.events text a) t.client a
+  pub calls : (w : WorldAt) (u : State) (c : ℕ) (store : Name) (q : Request) (how : How) (r : Reply) (a : Option Answer) (t : CallStep (state_of w) c q how r a u) → Holds w → (k : Knows w.script.catalog w.events c t.client_slot.client) → IsCurrent w.script.catalog w.events t.client_slot.client.txn k.under → (x : Executed) → k.waiting ≡ Some x → IsWaiting w.script.catalog w.events c (is_some t.client_slot.client.vacuum) x → W w.script.catalog w.events c x t.client_slot.client
       → SoOver A W w.script.catalog (w.events ++ event.Call c store q how r a ∷ []) c (replied_said w.events x a) t.client a
 
 ---- what is known of a client's statements
@@ -207,6 +209,12 @@ at_hand P client_slots i s here p = subst (λ (o : Option ClientSlot). P (state_
 to_hand : (P : ClientAt → Type 0) (client_slots : List ClientSlot) (i : ℕ) (s : ClientSlot) → slice_get client_slots i ≡ Some s → P s.client → P (states_of client_slots (suc i)).client
 to_hand P client_slots i s here p = subst (λ (o : Option ClientSlot). P (state_in o (suc i)).client) (sym here) p
 
+-- what is known of a client that goes on, whose open transaction runs under the catalog of the moment
+pub runs_at : (w : WorldAt) (i : ℕ) (s : ClientSlot) → slice_get w.client_slots i ≡ Some s → s.stopped ≡ false → HaveCauses w → (k : Knows w.script.catalog w.events (suc i) s.client) × IsCurrent w.script.catalog w.events s.client.txn k.under
+runs_at w i s here goes h =
+    at_hand (λ (d : ClientAt). (k : Knows w.script.catalog w.events (suc i) d) × IsCurrent w.script.catalog w.events d.txn k.under) w.client_slots i s here
+    (h.each (suc i), h.current (suc i) (on_hand (λ (x : ClientState). x.stopped ≡ false) w.client_slots i s here goes))
+
 ---- each step
 
 -- a call of another client is none of this one
@@ -229,7 +237,7 @@ module _ (A : List Table → List Event → ℕ → Executed → Type 0) (W : Li
       subst (λ (ss : List ClientSlot). (c : ℕ) (x : Executed) → Contains (statements_by c (w.events ++ e ∷ [])) x → SoOver A W w.script.catalog (w.events ++ e ∷ []) c x (states_of ss c).client x.answer) (sym same)
       (λ c x has. others A W kept w.script.catalog w.events e c (states_of w.client_slots c).client (h.caused.each c) (says c) (makes c) (so c) x has)
 
-  pub step_so : (w : WorldAt) (e : Event) (u : State) → IsStepFrom w.script (state_of w) e u → Holds w → AllSo A W w → AllSo A W (led w e u)
+  pub step_so : (w : WorldAt) (e : Event) (u : State) → IsStepFrom w.script w.events (state_of w) e u → Holds w → AllSo A W w → AllSo A W (led w e u)
   step_so w (event.Take c text a) u t h so =
       let i : ℕ = t.place in
       let k : Knows w.script.catalog w.events (suc i) t.client_slot.client = at_hand (Knows w.script.catalog w.events (suc i)) w.client_slots i t.client_slot t.at (h.caused.each (suc i)) in
@@ -241,25 +249,26 @@ module _ (A : List Table → List Event → ℕ → Executed → Type 0) (W : Li
       (subst (λ (n : ℕ). SoOver A W w.script.catalog (w.events ++ event.Take n text a ∷ []) n (executed_of_take w.events text a) t.client a) t.number (kept.takes w u c text a t h))))
   step_so w (event.Call c store q how r a) u t h so =
       let i : ℕ = t.place in
-      let k : Knows w.script.catalog w.events (suc i) t.client_slot.client = at_hand (Knows w.script.catalog w.events (suc i)) w.client_slots i t.client_slot t.at (h.caused.each (suc i)) in
+      let held = runs_at w i t.client_slot t.at t.goes_on h.caused in
+      let k : Knows w.script.catalog w.events (suc i) t.client_slot.client = held.0 in
       let x = pends_waits w.script.catalog w.events (suc i) t.client_slot.client q k t.pending in
       let waits = waits_of w.script.catalog w.events (suc i) t.client_slot.client k x.0 x.1 in
       let here : (y : Executed) → Contains (statements_by (suc i) w.events) y → SoOver A W w.script.catalog w.events (suc i) y t.client_slot.client y.answer = λ y has. at_hand (λ (d : ClientAt). SoOver A W w.script.catalog w.events (suc i) y d y.answer) w.client_slots i t.client_slot t.at (so (suc i) y has) in
       at_place (AllSo A W) w (λ n. event.Call n store q how r a) c i (client_after t.client_slot 0 t.client) (flights_after w.flights how q) u t.number t.left
       (moves_so w i t.client_slot (client_after t.client_slot 0 t.client) (event.Call (suc i) store q how r a) t.at h so
       (λ n apart. others_silent w.events n (suc i) (event.Call (suc i) store q how r a) apart refl) (λ n apart. apart_made n (suc i) (1 + length w.events) store q how r a apart)
-      (own_call A W kept w.script.catalog w.events (suc i) t.client_slot.client t.client store q how r a k x.0 x.1 waits here (at_number w u c store q how r a t h i t.number k x.0 x.1 waits (waiting_so i k x.0 x.1 waits here))))
+      (own_call A W kept w.script.catalog w.events (suc i) t.client_slot.client t.client store q how r a k x.0 x.1 waits here (at_number w u c store q how r a t h i t.number k held.1 x.0 x.1 waits (waiting_so i k x.0 x.1 waits here))))
     where
       waiting_so : (i : ℕ) (k : Knows w.script.catalog w.events (suc i) t.client_slot.client) (x : Executed) → k.waiting ≡ Some x → IsWaiting w.script.catalog w.events (suc i) (is_some t.client_slot.client.vacuum) x → ((y : Executed) → Contains (statements_by (suc i) w.events) y → SoOver A W w.script.catalog w.events (suc i) y t.client_slot.client y.answer) → W w.script.catalog w.events (suc i) x t.client_slot.client
       waiting_so i k x waiting waits here =
           subst (λ (o : Option Answer). SoOver A W w.script.catalog w.events (suc i) x t.client_slot.client o) waits.unanswered
           (here x (subst (λ (ss : List Executed). Contains ss x) (sym (k.same ∙ ap (λ (o : Option Executed). k.entries ++ waiting_of o) waiting)) (Contains-push k.entries x)))
 
-      at_number : (w : WorldAt) (u : State) (c : ℕ) (store : Name) (q : Request) (how : How) (r : Reply) (a : Option Answer) (t : CallStep (state_of w) c q how r a u) → Holds w → (i : ℕ) → c ≡ suc i → (k : Knows w.script.catalog w.events (suc i) t.client_slot.client) (x : Executed) → k.waiting ≡ Some x → IsWaiting w.script.catalog w.events (suc i) (is_some t.client_slot.client.vacuum) x → W w.script.catalog w.events (suc i) x t.client_slot.client
+      at_number : (w : WorldAt) (u : State) (c : ℕ) (store : Name) (q : Request) (how : How) (r : Reply) (a : Option Answer) (t : CallStep (state_of w) c q how r a u) → Holds w → (i : ℕ) → c ≡ suc i → (k : Knows w.script.catalog w.events (suc i) t.client_slot.client) → IsCurrent w.script.catalog w.events t.client_slot.client.txn k.under → (x : Executed) → k.waiting ≡ Some x → IsWaiting w.script.catalog w.events (suc i) (is_some t.client_slot.client.vacuum) x → W w.script.catalog w.events (suc i) x t.client_slot.client
           → SoOver A W w.script.catalog (w.events ++ event.Call (suc i) store q how r a ∷ []) (suc i) (replied_said w.events x a) t.client a
       at_number w u c store q how r a t h i number =
-          subst (λ (n : ℕ). (k : Knows w.script.catalog w.events n t.client_slot.client) (x : Executed) → k.waiting ≡ Some x → IsWaiting w.script.catalog w.events n (is_some t.client_slot.client.vacuum) x → W w.script.catalog w.events n x t.client_slot.client → SoOver A W w.script.catalog (w.events ++ event.Call n store q how r a ∷ []) n (replied_said w.events x a) t.client a) number
-          (λ k x waiting waits so. kept.calls w u c store q how r a t h k x waiting waits so)
+          subst (λ (n : ℕ). (k : Knows w.script.catalog w.events n t.client_slot.client) → IsCurrent w.script.catalog w.events t.client_slot.client.txn k.under → (x : Executed) → k.waiting ≡ Some x → IsWaiting w.script.catalog w.events n (is_some t.client_slot.client.vacuum) x → W w.script.catalog w.events n x t.client_slot.client → SoOver A W w.script.catalog (w.events ++ event.Call n store q how r a ∷ []) n (replied_said w.events x a) t.client a) number
+          (λ k runs x waiting waits so. kept.calls w u c store q how r a t h k runs x waiting waits so)
   step_so w (event.Stop c) u t h so =
       at_place (AllSo A W) w (λ n. event.Stop n) c t.place (client_stopped t.client_slot) w.flights u t.number t.left
       (moves_so w t.place t.client_slot (client_stopped t.client_slot) (event.Stop (suc t.place)) t.at h so (λ n apart. executed_more n w.events (event.Stop (suc t.place))) (λ n apart. refl)
@@ -267,9 +276,10 @@ module _ (A : List Table → List Event → ℕ → Executed → Type 0) (W : Li
       (λ x has. at_hand (λ (d : ClientAt). SoOver A W w.script.catalog w.events (suc t.place) x d x.answer) w.client_slots t.place t.client_slot t.at (so (suc t.place) x has))))
   step_so w (event.Clock m) u t h so = rests_so w u.client_slots u.flights u.clock (event.Clock m) (ap (λ (x : State). x.client_slots) t.1) h so (λ c. executed_more c w.events (event.Clock m)) (λ c. refl)
   step_so w (event.Idle d) u t h so = rests_so w u.client_slots u.flights u.clock (event.Idle d) (ap (λ (x : State). x.client_slots) t) h so (λ c. executed_more c w.events (event.Idle d)) (λ c. refl)
+  step_so w (event.Alter table column kind altered) u t h so = rests_so w u.client_slots u.flights u.clock (event.Alter table column kind altered) (ap (λ (x : State). x.client_slots) t.1) h so (λ c. executed_more c w.events (event.Alter table column kind altered)) (λ c. refl)
   step_so w (event.Land n store q how r) u t h so = rests_so w u.client_slots u.flights u.clock (event.Land n store q how r) (ap (λ (x : State). x.client_slots) t.left) h so (λ c. executed_more c w.events (event.Land n store q how r)) (λ c. refl)
 
-  path_so : (es : List Event) (w : WorldAt) (t : State) → IsPath w.script (state_of w) es t → Holds w → AllSo A W w → AllSo A W (record { script = w.script; client_slots = t.client_slots; flights = t.flights; events = w.events ++ es; clock = t.clock })
+  path_so : (es : List Event) (w : WorldAt) (t : State) → IsPath w.script w.events (state_of w) es t → Holds w → AllSo A W w → AllSo A W (record { script = w.script; client_slots = t.client_slots; flights = t.flights; events = w.events ++ es; clock = t.clock })
   path_so [] w t h k so =
       subst (λ (x : State). AllSo A W (record { script = w.script; client_slots = x.client_slots; flights = x.flights; events = w.events ++ []; clock = x.clock })) (sym h)
       (subst (λ (xs : List Event). AllSo A W (record { script = w.script; client_slots = w.client_slots; flights = w.flights; events = xs; clock = w.clock })) (sym (append-nil w.events)) so)

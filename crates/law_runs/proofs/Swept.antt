@@ -5,6 +5,7 @@ use Rattle.std.specs.Prelude.{Contains, is_some}
 use Rattle.std.specs.List.{AllByRecursion, count_by}
 use Rattle.law_runs.specs.Types.{Answer, Event, How, Key, Next, Reply, Request, Script, Span, Statement, Table, VacuumStep}
 use Rattle.sdb_types.proofs.Public.{clash, none_some}
+use Rattle.sdb_model.specs.Catalogs.{catalog_after}
 use Rattle.sdb_model.specs.declared.answer.Answer.TheVariants as answer
 use Rattle.sdb_model.specs.declared.event.Event.TheVariants as event
 use Rattle.sdb_model.specs.declared.statement.Statement.TheVariants as statement
@@ -31,7 +32,9 @@ use Rattle.law_runs.proofs.GivesUp.{each_of}
 use Rattle.law_runs.proofs.Replies.{CallOf, SweepCall, call_of}
 use Rattle.law_runs.proofs.Statements.{AreKept, SoBy, calls_more, known, none_in, replied_said, statements_so, waits_of}
 use Rattle.law_runs.proofs.Steps.{Holds, execution_caused, execution_holds}
-use Rattle.law_runs.proofs.VacuumCalls.{MostLeft, most_enough, most_more, most_so_far}
+use Rattle.law_runs.proofs.SameTables.{same_whole}
+use Rattle.sdb_model.proofs.Public.{same_length}
+use Rattle.law_runs.proofs.VacuumCalls.{MostLeft, most_under, most_enough, most_more, most_so_far}
 use Rattle.law_runs.proofs.Vacuuming.{AllDelete, AllDeleted, Going, LedTo, deletes_more, in_order, sweep_led}
 use Rattle.law_runs.proofs.Takes.{TakenAs, taken_as, VacuumAtOnce, vacuum_taken}
 use Rattle.sdb_model.specs.Tables.{is_data}
@@ -77,22 +80,26 @@ taken_count n q text h d a vacuums t e = by (subst (VacuumAtOnce q.catalog) e (v
     by (inr (inr (inl z))) = absurd (cc)
     by (inr (inr (inr z))) = z.1
 
-takes_sweeps : (w : WorldAt) (u : State) (c : ℕ) (text : List ℕ) (a : Option Answer) (t : TakeStep w.script (state_of w) c text a u) → Holds w → SoBy (SweepsSo w.script.catalog) (WaitsSweeping w.script.catalog) (w.events ++ event.Take c text a ∷ []) c (executed_of_take w.events text a) t.client a
+takes_sweeps : (w : WorldAt) (u : State) (c : ℕ) (text : List ℕ) (a : Option Answer) (t : TakeStep w.script w.events (state_of w) c text a u) → Holds w → SoBy (SweepsSo w.script.catalog) (WaitsSweeping w.script.catalog) (w.events ++ event.Take c text a ∷ []) c (executed_of_take w.events text a) t.client a
 takes_sweeps w u c text (Some b) t h = λ vacuums. subst (HasSwept w.script.catalog (executed_of_take w.events text (Some b))) (sym (none_yet c w.events text (Some b))) (record {
   in_order = (whole_tables w.script.catalog, refl);
   most = omega arith;
   deletes = no_deletes [] refl;
-  done = λ n e. (sym (ap whole_tables (taken_count n (record { catalog = w.script.catalog; now = w.clock; gate = t.gate; fresh = next_id t.client_slot.client }) text t.client_slot.client t.client (Some b) vacuums t.takes e)), λ m r f. none_in m f.among);
+  done = λ n e. (sym (ap whole_tables (taken_count n (record { catalog = catalog_after w.script.catalog w.events; now = w.clock; gate = t.gate; fresh = next_id t.client_slot.client }) text t.client_slot.client t.client (Some b) vacuums t.takes e)) ∙ same_whole w.script.catalog w.events, λ m r f. none_in m f.among);
 })
-takes_sweeps w u c text None t h = subst (λ (ms : List StoreCall). GoesOver w.script.catalog ms t.client.vacuum) (sym (none_yet c w.events text None)) (by (taken_as (record { catalog = w.script.catalog; now = w.clock; gate = t.gate; fresh = next_id t.client_slot.client }) text t.client_slot.client t.client t.takes))
+takes_sweeps w u c text None t h = subst (λ (ms : List StoreCall). GoesOver w.script.catalog ms t.client.vacuum) (sym (none_yet c w.events text None)) (by (taken_as (record { catalog = catalog_after w.script.catalog w.events; now = w.clock; gate = t.gate; fresh = next_id t.client_slot.client }) text t.client_slot.client t.client t.takes))
   where
     idle : (d : ClientAt) → d.vacuum ≡ None → GoesOver w.script.catalog [] d.vacuum
     idle d e = subst (GoesOver w.script.catalog []) (sym e) tt
 
-    begins : (x : Table) (xs : List Table) → w.script.catalog ≡ x ∷ xs → GoesOver w.script.catalog [] (Some (sweeping (x ∷ xs)))
-    begins x xs e = subst (λ (ts : List Table). GoesOver ts [] (Some (sweeping (x ∷ xs)))) (sym e) (no_deletes [] refl, record { scanned = refl; seen = tt; left = λ m r f. none_in m f.among }, most_first x xs)
+    begins : (x : Table) (xs : List Table) → catalog_after w.script.catalog w.events ≡ x ∷ xs → GoesOver w.script.catalog [] (Some (sweeping (x ∷ xs)))
+    begins x xs e = (
+      no_deletes [] refl,
+      record { scanned = ap whole_tables (sym e) ∙ same_whole w.script.catalog w.events; seen = tt; left = λ m r f. none_in m f.among },
+      most_under w.script.catalog (x ∷ xs) [] (sweeping (x ∷ xs)) (ap length (sym e) ∙ same_length w.script.catalog w.events) (most_first x xs),
+    )
 
-    by : TakenAs (record { catalog = w.script.catalog; now = w.clock; gate = t.gate; fresh = next_id t.client_slot.client }) t.client_slot.client t.client → GoesOver w.script.catalog [] t.client.vacuum
+    by : TakenAs (record { catalog = catalog_after w.script.catalog w.events; now = w.clock; gate = t.gate; fresh = next_id t.client_slot.client }) t.client_slot.client t.client → GoesOver w.script.catalog [] t.client.vacuum
     by (inl z) = idle t.client (ap (λ (y : ClientAt). y.vacuum) z.left ∙ t.idle.free)
     by (inr (inl z)) = subst (λ (y : ClientAt). GoesOver w.script.catalog [] y.vacuum) (sym z.left) (begins z.table z.tables z.catalog)
     by (inr (inr z)) = idle t.client (ap (λ (y : ClientAt). y.vacuum) z.left ∙ t.idle.free)
@@ -187,8 +194,8 @@ sweeps_kept = record {
   answered = λ catalog events e c s past so vacuums. subst (HasSwept catalog s) (sym past.calls) (so vacuums);
   waiting = λ catalog events e c s h still so. subst (λ (ms : List StoreCall). GoesOver catalog ms h.vacuum) (sym still.calls) so;
   takes = takes_sweeps;
-  calls = λ w u c store q how r a t h k x waiting waits so. call_sweeps w.script.catalog w.events c t.client_slot.client t.client store q how r w.clock k.entries x waits (h.world.each t.place t.client_slot t.at).about h.world.playable.apart so a
-      (call_of w.script.catalog w.events c t.client_slot.client k x waiting q r w.clock a t.client t.pending (h.world.each t.place t.client_slot t.at).fitted t.takes);
+  calls = λ w u c store q how r a t h k runs x waiting waits so. call_sweeps w.script.catalog w.events c t.client_slot.client t.client store q how r w.clock k.entries x waits (h.world.each t.place t.client_slot t.at).about h.world.playable.apart so a
+      (call_of w.script.catalog w.events c t.client_slot.client k runs x waiting q r w.clock a t.client t.pending ((h.world.each t.place t.client_slot t.at).fitted t.goes_on) t.takes);
 }
 
 -- the count of a VACUUM is that of its deletes that were applied

@@ -5,7 +5,8 @@ use Rattle.std.specs.List.{count_by}
 use Rattle.std.proofs.lemmas.List.Sums.{fold-append, sum_by-append, sum_by-cons}
 use Rattle.std.proofs.lemmas.Bool.{eqb-false, ne_eqb}
 use Rattle.std.proofs.lemmas.List.Folds.{list_any-append}
-use Rattle.law_runs.specs.Types.{Answer, Event, How, Reply, Request}
+use Rattle.law_runs.specs.Types.{Answer, Event, How, Kind, Reply, Request, TableName}
+use Rattle.sdb_model.specs.declared.event.Altered.{Altered}
 use Rattle.sdb_model.specs.Rows.{Name}
 use Rattle.sdb_model.specs.declared.event.Event.TheVariants as event
 use Rattle.sdb_model.specs.Follows.{has_stopped, is_pending, pends_after, stops, takes_of, is_take_of}
@@ -65,6 +66,9 @@ idle_apart c d = record { takes = refl; stops = refl; pends = λ was. refl }
 
 pub land_apart : (number : ℕ) (store : Name) (q : Request) (how : How) (r : Reply) (d : ℕ) → IsApart d (event.Land number store q how r)
 land_apart number store q how r d = record { takes = refl; stops = refl; pends = λ was. refl }
+
+pub alter_apart : (table : TableName) (column : Name) (kind : Kind) (a : Altered) (d : ℕ) → IsApart d (event.Alter table column kind a)
+alter_apart table column kind a d = record { takes = refl; stops = refl; pends = λ was. refl }
 
 pub clock_apart : (m : ℤ) (d : ℕ) → IsApart d (event.Clock m)
 clock_apart m d = record { takes = refl; stops = refl; pends = λ was. refl }

@@ -1,6 +1,6 @@
 -- How many calls a VACUUM has made, one call after the other: a scan for each table, a delete for each tombstone, and five calls for each
 -- unresolved record.
-use Rattle.std.proofs.Common.{◌≡◌, ◌≤◌, ◌+◌, ◌*◌, ℕ, ℤ, suc, Bool, true, false, List, [], ◌∷◌, ◌++◌, length, Some, None, refl, sym, ap, ◌∙◌, arith}
+use Rattle.std.proofs.Common.{◌≡◌, ◌≤◌, ◌+◌, ◌*◌, ℕ, ℤ, suc, Bool, true, false, List, [], ◌∷◌, ◌++◌, length, Some, None, refl, sym, ap, subst, ◌∙◌, arith}
 use Rattle.std.specs.Prelude.{if◌then◌else◌, filter, is_some}
 use Rattle.std.proofs.lemmas.List.Sums.{fold-append}
 use Rattle.law_runs.specs.Types.{Meta, Record, RecoverPhase, RecoverStep, Reply, Span, Table}
@@ -208,6 +208,10 @@ module _ (catalog : List Table) (calls : List StoreCall) (m : StoreCall) where
       by (Resolving rec meta p left) f k = one_fewer (length v.spans + (calls_left p + (1 + left_calls left))) 0 (some (calls_left p + (1 + left_calls left)) (length v.spans) (some_first (calls_left p) (left_calls left))) k
       by (Removing b left) f k = one_fewer (length v.spans + (1 + left_calls left)) 0 (some (1 + left_calls left) (length v.spans) (one_plus (left_calls left))) k
       by Over f k = none_some m.request f
+
+-- only the number of the tables counts
+pub most_under : (catalog other : List Table) (calls : List StoreCall) (v : VacuumAt) → length other ≡ length catalog → MostLeft other calls v → MostLeft catalog calls v
+most_under catalog other calls v same h = subst (λ (n : ℕ). length calls + (length v.spans + rest_of_stage v.stage) ≤ n + (tombstones_in calls + 5 * length (unresolved_in calls))) same h
 
 -- of one that waits they are
 pub most_so_far : (catalog : List Table) (calls : List StoreCall) (v : VacuumAt) → MostLeft catalog calls v → IsVacuumMost catalog calls

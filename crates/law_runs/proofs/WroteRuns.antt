@@ -21,7 +21,7 @@ use Rattle.law_answers.specs.Invariant.{IsDoing, IsOpenAs, IsWaiting, Knows, Doi
 use Rattle.law_answers.specs.Rolled.{AnsweredWereSeen}
 use Rattle.law_answers.proofs.Public.{each_middle, since_all, take_ends, take_open}
 use Rattle.sdb_client.specs.Execution.{IsExecution, IsPlayable}
-use Rattle.law_runs.specs.Found.{answered_inside, is_answered, takes_part}
+use Rattle.law_runs.specs.Found.{AreUnder, answered_inside, is_answered, takes_part}
 use Rattle.law_runs.specs.Written.{CommitsPrepareWritten, DecisionsFollowPoints, PreparesAll, PreparesAreAsMany, keys_of}
 use Rattle.law_runs.specs.World.{WorldAt, states_of}
 use Rattle.law_runs.proofs.OngoingReads.{NothingMore}
@@ -31,7 +31,7 @@ use Rattle.law_runs.proofs.FoundRuns.{all_run, execution_runs, wait_so}
 use Rattle.law_runs.proofs.FoundSteps.{SeesIn, SeesRun, answered_of_is}
 use Rattle.law_runs.proofs.OwnPrepares.{execution_own}
 use Rattle.law_runs.proofs.PreparingCalls.{DoingPrepares, TxnPrepares, WaitPrepares, prepares_kept}
-use Rattle.law_runs.proofs.Running.{goes_on, running, running_of}
+use Rattle.law_runs.proofs.Running.{goes_on, keys_one, running, running_of}
 use Rattle.law_runs.proofs.Statements.{AllSo, statements_so}
 use Rattle.law_runs.proofs.Steps.{execution_holds}
 use Rattle.law_runs.proofs.Writing.{write_keys}
@@ -95,24 +95,27 @@ module _ (script : Script) (events : List Event) (playable : IsPlayable script) 
         so : TxnPrepares h.txn (calls_of events c y)
         so = wait_so w WaitPrepares prepared c h refl k y waiting waits
 
-        sees : IfSome h.txn (SeesRun catalog events c (running_of events c h.begun k.entries))
-        sees = subst (λ ss. IfSome h.txn (SeesRun catalog events c (running_of events c h.begun ss))) (answered_of_is catalog events c h k) (all_run script events playable x c).sees
+        under : List Table
+        under = (all_run script events playable x c).under
 
-        by_doing : (t : TxnAt) (p : Option Planned) (d : Doing) → IsOpenAs c h.begun k.entries t → IsDoing events c t p (Some y) d → DoingPrepares d (calls_of events c y) → SeesIn catalog events c (running_of events c h.begun k.entries) t.seen d → Wrote y (begun_in k.entries)
-        by_doing t p doing.Idle o i n s = absurd (none_is (sym i))
+        sees : IfSome h.txn (SeesRun catalog under events c (running_of events c h.begun k.entries))
+        sees = subst (λ ss. IfSome h.txn (SeesRun catalog under events c (running_of events c h.begun ss))) (answered_of_is catalog events c h k) (all_run script events playable x c).runs.sees
+
+        by_doing : (t : TxnAt) (p : Option Planned) (d : Doing) → IsOpenAs c h.begun k.entries t → IsDoing events c t p (Some y) d → DoingPrepares d (calls_of events c y) → AreUnder catalog events under (running_of events c h.begun k.entries) → SeesIn under events c (running_of events c h.begun k.entries) t.seen d → Wrote y (begun_in k.entries)
+        by_doing t p doing.Idle o i n a s = absurd (none_is (sym i))
           where
             none_is : ◌≡◌ {A = Option Executed} None (Some y) → ⊥
             none_is e = cc
-        by_doing t None (doing.Read a z) o i n s = absurd i
-        by_doing t (Some p) (doing.Read a z) o i n s = clash (sym reads ∙ i.inner.commit)
-        by_doing t p (doing.Commit z) o i n s =
+        by_doing t None (doing.Read b z) o i n a s = absurd i
+        by_doing t (Some p) (doing.Read b z) o i n a s = clash (sym reads ∙ i.inner.commit)
+        by_doing t p (doing.Commit z) o i n a s =
             subst (Wrote y) k.begun
-            (λ statements read. subst (λ ks. PreparesAll ks (id_of c h.begun) (calls_of events c y)) (s statements read) (subst (λ (id : TxId). PreparesAll (write_keys z.work.writes) id (calls_of events c y)) (i.same ∙ o.id) n.sofar))
-        by_doing t p doing.Over o i n s = absurd i
+            (λ other accepted statements read. subst (λ ks. PreparesAll ks (id_of c h.begun) (calls_of events c y)) (s statements read ∙ keys_one catalog events c (running_of events c h.begun k.entries) statements under other a accepted) (subst (λ (id : TxId). PreparesAll (write_keys z.work.writes) id (calls_of events c y)) (i.same ∙ o.id) n.sofar))
+        by_doing t p doing.Over o i n a s = absurd i
 
-        by_txn : (o : Option TxnAt) → DoingByHistory events c h.begun k.entries (Some y) h.plan o → TxnPrepares o (calls_of events c y) → IfSome o (SeesRun catalog events c (running_of events c h.begun k.entries)) → Wrote y (begun_in k.entries)
+        by_txn : (o : Option TxnAt) → DoingByHistory events c h.begun k.entries (Some y) h.plan o → TxnPrepares o (calls_of events c y) → IfSome o (SeesRun catalog under events c (running_of events c h.begun k.entries)) → Wrote y (begun_in k.entries)
         by_txn None s n v = clash (sym opened ∙ s.1)
-        by_txn (Some t) s n v = by_doing t h.plan t.doing s.1 s.2 n v
+        by_txn (Some t) s n v = by_doing t h.plan t.doing s.1 s.2 n v.0 v.1
 
         by_vacuum : (v : Option VacuumAt) → ClientByHistory events c h.begun k.entries (Some y) h.plan h.txn v → Wrote y (begun_in k.entries)
         by_vacuum None s = by_txn h.txn s so sees
@@ -123,7 +126,7 @@ module _ (script : Script) (events : List Event) (playable : IsPlayable script) 
     all_wrote = subst (CommitsWrote catalog events c) (sym k.same) (by k.waiting refl k.waits)
       where
         before : CommitsWrote catalog events c k.entries
-        before = subst (CommitsWrote catalog events c) (answered_of_is catalog events c h k) (all_run script events playable x c).commits
+        before = subst (CommitsWrote catalog events c) (answered_of_is catalog events c h k) (all_run script events playable x c).runs.commits
 
         by : (o : Option Executed) → k.waiting ≡ o → IfSome o (IsWaiting catalog events c (is_some h.vacuum)) → CommitsWrote catalog events c (k.entries ++ waiting_of o)
         by None e v = subst (CommitsWrote catalog events c) (sym (append-nil k.entries)) before
@@ -159,8 +162,8 @@ module _ (script : Script) (events : List Event) (playable : IsPlayable script) 
   -- Each COMMIT prepares what was written.
   pub execution_wrote : CommitsPrepareWritten catalog events
   execution_wrote client s id z =
-      subst (λ c. PreparesAll (keys_of catalog events c (answered_inside events id) z.statements) id (calls_of events c s)) z.commit.0
-      (commit_wrote id s z.commit.1 z.statements z.run)
+      subst (λ c. PreparesAll (keys_of z.under events c (answered_inside events id) z.statements) id (calls_of events c s)) z.commit.0
+      (commit_wrote id s z.commit.1 z.under z.accepted z.statements z.run)
 
   ---- one that decides
 
@@ -168,11 +171,11 @@ module _ (script : Script) (events : List Event) (playable : IsPlayable script) 
   pub execution_many : PreparesAreAsMany catalog events
   execution_many client s id m z d =
       let h = execution_wrote client s id z in
-      as_many (keys_of catalog events client (answered_inside events id) z.statements) id (calls_of events client s) m h (h.decided m d.call d.puts)
+      as_many (keys_of z.under events client (answered_inside events id) z.statements) id (calls_of events client s) m h (h.decided m d.call d.puts)
 
   -- Each COMMIT decides after its point.
   pub execution_points : AnsweredWereSeen events → DecisionsFollowPoints events
   execution_points seen client s id m d =
       let run = execution_runs script events playable x id in
-      follows_point events (execution_own script events playable x) (execution_belongs script events playable x) seen client s id m d (subst (λ c. Contains (statements_by c events) s) d.commit.0 (commit_said id s d.commit.1)) (keys_of catalog events client (answered_inside events id) run.statements)
-      (execution_wrote client s id (record { commit = d.commit; statements = run.statements; run = run.run }))
+      follows_point events (execution_own script events playable x) (execution_belongs script events playable x) seen client s id m d (subst (λ c. Contains (statements_by c events) s) d.commit.0 (commit_said id s d.commit.1)) (keys_of run.0 events client (answered_inside events id) run.2.statements)
+      (execution_wrote client s id (record { commit = d.commit; under = run.0; accepted = run.1; statements = run.2.statements; run = run.2.run }))

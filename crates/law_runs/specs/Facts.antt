@@ -8,7 +8,7 @@ use Rattle.law_runs.specs.Types.{Answer, Event, TableDump}
 use Rattle.sdb_model.specs.declared.answer.Answer.TheVariants as answer
 use Rattle.sdb_model.specs.declared.event.Event.TheVariants as event
 use Rattle.sdb_model.specs.declared.event.Outcome.{Outcome}
-use Rattle.sdb_model.specs.Plain.{IsPlainPoint, id_is_plain, is_counted, refusal_is_plain, reply_is_plain, request_is_plain, table_is_plain, values_are_plain}
+use Rattle.sdb_model.specs.Plain.{IsPlainPoint, altered_is_plain, id_is_plain, is_counted, refusal_is_plain, reply_is_plain, request_is_plain, table_is_plain, values_are_plain}
 
 abbrev pub answer_fits : Answer → Type 0
 answer_fits (answer.Rows rows) = is_counted rows × All values_are_plain rows
@@ -37,6 +37,7 @@ event_fits (event.Call client store request how reply given) =
 event_fits (event.Stop client) = client < 2 ^ 32
 event_fits (event.Clock moment) = FitsSigned w64 moment
 event_fits (event.Idle client) = client < 2 ^ 32
+event_fits (event.Alter table column kind altered) = table_is_plain table × (is_name column ≡ true) × altered_is_plain altered
 event_fits (event.Land number store request how reply) = (number < 2 ^ 32) × (is_name store ≡ true) × request_is_plain request × reply_is_plain reply
 
 pub record dump_fits (t : TableDump) : Type 0 where

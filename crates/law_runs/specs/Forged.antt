@@ -38,9 +38,16 @@ busy_at_once text key id at = event.Take 1 text (Some (answer.Busy key id at)) �
 abbrev pub counted_at_once : List ℕ → List Event
 counted_at_once text = event.Take 1 text (Some (answer.Count 0)) ∷ []
 
+-- texts that read as BEGIN and as COMMIT
+pub record EmptyTransaction : Type 0 where
+  pub begin : List ℕ
+  pub commit : List ℕ
+  pub begins : reads_begin begin ≡ true
+  pub commits : reads_commit commit ≡ true
+
 -- A COMMIT in a transaction is answered Faulted as it is accepted.
-abbrev pub faults_at_once : List ℕ → List ℕ → List Event
-faults_at_once begin commit = event.Take 1 begin (Some answer.Done) ∷ event.Take 1 commit (Some answer.Faulted) ∷ []
+abbrev pub faults_at_once : EmptyTransaction → List Event
+faults_at_once t = event.Take 1 t.begin (Some answer.Done) ∷ event.Take 1 t.commit (Some answer.Faulted) ∷ []
 
 -- A statement reads a key, and is answered Done.
 abbrev pub reads_and_is_done : List ℕ → Key → List Event

@@ -1,20 +1,22 @@
 -- What a transaction has found in the tables, and what its statements answer on that.
 use Rattle.std.specs.Prelude.{◌≡◌, Bool, false, not, if◌then◌else◌, ℕ, List, [], ◌∷◌, ◌++◌, filter, fold, map, Option, Some, None, is_some, true, Contains, ◌||◌}
 use Rattle.std.specs.FinMap.{empty}
-use Rattle.std.specs.List.{filter_map, flat_map, list_any}
+use Rattle.std.specs.List.{AllByRecursion, filter_map, flat_map, list_any}
 use Rattle.std.specs.Option.{option_and_then, option_map_or}
 use Rattle.law_runs.specs.Types.{Answer, Event, Key, Pair, Record, Reply, Request, Span, Statement, Table, TxId}
 use Rattle.sdb_types.specs.declared.record.Reply.TheVariants as reply
 use Rattle.sdb_types.specs.declared.record.Request.TheVariants as ask
 use Rattle.sdb_types.specs.Order.{same_key}
-use Rattle.sdb_record.specs.Rolls.{row_of_image}
 use Rattle.sdb_model.specs.Access.{in_access, with_row}
 use Rattle.sdb_model.specs.Calls.{StoreCall, calls_of}
+use Rattle.sdb_model.specs.Catalogs.{catalog_after}
+use Rattle.sdb_model.specs.Causes.{before}
 use Rattle.sdb_model.specs.Exec.{Tables, exec, named_table}
 use Rattle.sdb_model.specs.Reads.{access_of}
 use Rattle.sdb_model.specs.ReadSet.{meaning_of, reads_rows, has_read}
 use Rattle.sdb_model.specs.Sql.{reads_commit, Reads}
 use Rattle.sdb_model.specs.Transactions.{Executed, client_of, is_effective, statements_of, statements_inside}
+use Rattle.sdb_snapshot.specs.Rows.{row_found}
 use Rattle.sdb_snapshot.specs.Seen.{same_span}
 use Rattle.law_clients.specs.Fitting.{row_is_well_typed}
 
@@ -55,8 +57,8 @@ is_misfit_row catalog key row = option_map_or (λ columns. not (row_is_well_type
 abbrev pub with_one_found : List Table → View → Key × Option Record → View
 with_one_found catalog v e =
     if has_found v e.0 then v
-    else if is_misfit_row catalog e.0 (option_and_then row_of_image e.1) then record { keys = v.keys ++ e.0 ∷ []; misfits = v.misfits ++ e.0 ∷ []; rows = v.rows }
-    else record { keys = v.keys ++ e.0 ∷ []; misfits = v.misfits; rows = with_row v.rows e.0 (option_and_then row_of_image e.1) }
+    else if is_misfit_row catalog e.0 (row_found e.1) then record { keys = v.keys ++ e.0 ∷ []; misfits = v.misfits ++ e.0 ∷ []; rows = v.rows }
+    else record { keys = v.keys ++ e.0 ∷ []; misfits = v.misfits; rows = with_row v.rows e.0 (row_found e.1) }
 
 -- with what a statement found
 abbrev pub with_found : List Table → View → List (Key × Option Record) → View
@@ -78,13 +80,17 @@ abbrev pub run_one : List Table → Option Statement → View → List Answer ×
 run_one catalog None v = ([], v)
 run_one catalog (Some s) v = if meets_misfit catalog s v then ([], v) else ((exec_on catalog s v).0 ∷ [], (exec_on catalog s v).1)
 
+-- the same with what it found itself
+abbrev pub run_found : List Table → Option Statement → View → List (Key × Option Record) → List Answer × View
+run_found catalog s v found = run_one catalog s (with_found catalog v found)
+
 -- The answers to statements that run one after the other, each on what was found so far, with what it found itself; and the view after them.
 -- One that was refused, or met a row that doesn't fit, doesn't run, and what it found is found.
 abbrev pub run_on_found : List Table → List (List (Key × Option Record)) → List (Option Statement) → View → List Answer × View
 run_on_found catalog [] ss v = ([], v)
 run_on_found catalog (f ∷ fs) [] v = ([], v)
 run_on_found catalog (f ∷ fs) (s ∷ ss) v =
-    ((run_one catalog s (with_found catalog v f)).0 ++ (run_on_found catalog fs ss (run_one catalog s (with_found catalog v f)).1).0, (run_on_found catalog fs ss (run_one catalog s (with_found catalog v f)).1).1)
+    ((run_found catalog s v f).0 ++ (run_on_found catalog fs ss (run_found catalog s v f).1).0, (run_on_found catalog fs ss (run_found catalog s v f).1).1)
 
 -- what each of some statements of a client found
 abbrev pub finds : List Event → ℕ → List Executed → List (List (Key × Option Record))
@@ -115,13 +121,25 @@ is_answered s = is_some s.answer
 abbrev pub takes_part : List Event → ℕ → Executed → Bool
 takes_part events client s = is_effective s || has_read events client s
 
--- the statements of a transaction that were answered and changed something, or whose reads have finished
+-- those of some statements of a transaction that were answered and changed something, or whose reads have finished
+abbrev pub answered_among : List Event → TxId → List Executed → List Executed
+answered_among events id ss = filter is_answered (filter (takes_part events (client_of id)) ss)
+
+-- those of all its statements
 abbrev pub answered_inside : List Event → TxId → List Executed
-answered_inside events id = filter is_answered (filter (takes_part events (client_of id)) (statements_inside events id))
+answered_inside events id = answered_among events id (statements_inside events id)
+
+-- Statements were accepted under one catalog.
+abbrev pub AreUnder : List Table → List Event → List Table → List Executed → Type 0
+AreUnder catalog events under ss = AllByRecursion (λ s. catalog_after catalog (before s events) ≡ under) ss
+
+-- They run on what they found under the catalog with which all of them were accepted.
+abbrev pub RunsUnder : List Table → List Event → ℕ → List Executed → Type 0
+RunsUnder catalog events client ss = (under : List Table) × AreUnder catalog events under ss × IsRunOnFound under events client ss
 
 -- This holds of each transaction, recorded or not.
 abbrev pub RunsOnFound : List Table → List Event → Type 0
-RunsOnFound catalog events = (id : TxId) → IsRunOnFound catalog events (client_of id) (answered_inside events id)
+RunsOnFound catalog events = (id : TxId) → RunsUnder catalog events (client_of id) (answered_inside events id)
 
 ---- new reads
 
@@ -157,4 +175,6 @@ pub record ReadsIn (events : List Event) (id : TxId) (before : List Executed) (s
 
 -- It is new after those before it that were answered and changed something, or whose reads have finished.
 abbrev pub ReadsAreNew : List Event → Type 0
-ReadsAreNew events = (id : TxId) (before : List Executed) (s : Executed) (m : StoreCall) → ReadsIn events id before s m → IsNewRead events (client_of id) (filter is_answered (filter (takes_part events (client_of id)) before)) m.request
+ReadsAreNew events =
+    (id : TxId) (before : List Executed) (s : Executed) (m : StoreCall) → ReadsIn events id before s m
+    → IsNewRead events (client_of id) (answered_among events id before) m.request

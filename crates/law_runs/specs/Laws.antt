@@ -17,7 +17,7 @@ use Rattle.sdb_model.specs.Causes.{IsCommitOf}
 use Rattle.sdb_model.specs.Transactions.{Executed, prepares, statements_by}
 use Rattle.law_clients.specs.Invariant.{RunInvariant}
 use Rattle.law_clients.specs.Fitting.{tables_are_well_typed}
-use Rattle.law_clients.specs.States.{doing_of, system_of}
+use Rattle.law_clients.specs.States.{ClientState, doing_of, system_of}
 use Rattle.sdb_client.specs.Execution.{IsExecution, IsPlayable}
 use Rattle.law_runs.specs.World.{states_of}
 use Rattle.law_runs.specs.Linked.{on_one}
@@ -33,9 +33,14 @@ pub record ExecutionOf : Type 0 where
 abbrev pub FollowsMoves : ExecutionOf → Type 0
 FollowsMoves x = Follows x.script x.events
 
--- The rules of the protocol hold of its events, and the knowledge, the history and the execution of each client are those of the events, wherever its tables are kept.
+-- its clients after its events
+abbrev pub states_after : ExecutionOf → ℕ → ClientState
+states_after x = states_of x.execution.last.client_slots
+
+-- The rules of the protocol hold of its events, and the knowledge, the history and the execution of each client are those of the events,
+-- wherever its tables are kept.
 abbrev pub RulesHold : ExecutionOf → Type 0
-RulesHold x = RunInvariant x.script.catalog (tables_are_well_typed x.script.catalog) (on_one x.events) (system_of (states_of x.execution.last.client_slots)) (doing_of (states_of x.execution.last.client_slots))
+RulesHold x = RunInvariant x.script.catalog tables_are_well_typed (on_one x.events) (system_of (states_after x)) (doing_of (states_after x))
 
 -- A call is one of a statement of its client.
 pub record IsOfStatement (events : List Event) (client : ℕ) (m : StoreCall) : Type 0 where
@@ -47,9 +52,15 @@ pub record IsOfStatement (events : List Event) (client : ℕ) (m : StoreCall) : 
 abbrev pub CallsAreOfStatements : List Event → Type 0
 CallsAreOfStatements events = (client : ℕ) (m : StoreCall) → Contains (calls_by events client) m → IsOfStatement events client m
 
--- A statement that is answered Busy is no COMMIT and no VACUUM.
+-- a text is no COMMIT and no VACUUM
+abbrev pub IsOfRead : List ℕ → Type 0
+IsOfRead text = (reads_commit text ≡ false) × (reads_vacuum text ≡ false)
+
+-- A statement that is answered Busy is neither.
 abbrev pub BusyIsOfReads : List Event → Type 0
-BusyIsOfReads events = (client : ℕ) (s : Executed) (key : Key) (id : TxId) (at : ℤ) → Contains (statements_by client events) s → s.answer ≡ Some (answer.Busy key id at) → (reads_commit s.text ≡ false) × (reads_vacuum s.text ≡ false)
+BusyIsOfReads events =
+    (client : ℕ) (s : Executed) (key : Key) (id : TxId) (at : ℤ) → Contains (statements_by client events) s
+    → s.answer ≡ Some (answer.Busy key id at) → IsOfRead s.text
 
 -- A call of a statement puts a record, and prepares for a transaction with it.
 pub record PreparedBy (events : List Event) (client : ℕ) (s : Executed) (m : StoreCall) (id : TxId) (r : Record) : Type 0 where
@@ -66,16 +77,22 @@ pub record IsOwnPrepare (events : List Event) (client : ℕ) (s : Executed) (id 
 
 -- This holds of each.
 abbrev pub PreparesAreOwn : List Event → Type 0
-PreparesAreOwn events = (client : ℕ) (s : Executed) (m : StoreCall) (id : TxId) (r : Record) → PreparedBy events client s m id r → IsOwnPrepare events client s id r
+PreparesAreOwn events =
+    (client : ℕ) (s : Executed) (m : StoreCall) (id : TxId) (r : Record) → PreparedBy events client s m id r → IsOwnPrepare events client s id r
 
 -- At most one of the calls reads rows of tables.
 abbrev pub ReadsOnce : List StoreCall → Type 0
 ReadsOnce calls = count_by reads_rows calls ≤ 1
 
 -- A statement that is no COMMIT and no VACUUM reads rows by one call at most; BEGIN and ROLLBACK make no call.
+abbrev pub AreFewReads : List ℕ → List StoreCall → Type 0
+AreFewReads text calls =
+    (reads_commit text ≡ false → reads_vacuum text ≡ false → ReadsOnce calls)
+    × ((reads_begin text ≡ true) ⊎ (reads_rollback text ≡ true) → calls ≡ [])
+
+-- This holds of each.
 abbrev pub ReadsAreFew : List Event → Type 0
-ReadsAreFew events = (client : ℕ) (s : Executed) → Contains (statements_by client events) s
-    → (reads_commit s.text ≡ false → reads_vacuum s.text ≡ false → ReadsOnce (calls_of events client s)) × ((reads_begin s.text ≡ true) ⊎ (reads_rollback s.text ≡ true) → calls_of events client s ≡ [])
+ReadsAreFew events = (client : ℕ) (s : Executed) → Contains (statements_by client events) s → AreFewReads s.text (calls_of events client s)
 
 -- A call writes the coordinator's row of a transaction.
 abbrev pub WritesRow : TxId → StoreCall → Type 0
@@ -112,4 +129,5 @@ pub record GivesUp (events : List Event) (calls : List StoreCall) (m : StoreCall
 -- A call that writes a transaction's row is one of its own COMMIT; or it puts ABORTED, after a record of the transaction has expired.
 abbrev pub DecisionsAreDue : List Event → Type 0
 DecisionsAreDue events =
-    (client : ℕ) (s : Executed) (m : StoreCall) (id : TxId) → Contains (statements_by client events) s → Contains (calls_of events client s) m → id.0 < 2 ^ 128 → WritesRow id m → IsOwnDecision events client s id m ⊎ GivesUp events (calls_of events client s) m id
+    (client : ℕ) (s : Executed) (m : StoreCall) (id : TxId) → Contains (statements_by client events) s → Contains (calls_of events client s) m → id.0 < 2 ^ 128
+    → WritesRow id m → IsOwnDecision events client s id m ⊎ GivesUp events (calls_of events client s) m id

@@ -87,7 +87,7 @@ pub record TracedProgress : Type 0 where
 -- The run invariant holds of events as made on one store.
 pub record InvariantOnOne (catalog : List Table) : Type 0 where
   pub name : Name
-  pub fit : Tables → Bool
+  pub fit : List Table → Tables → Bool
   pub events : List Event
   pub sys : SystemAt
   pub doing : ℕ → Option Statement

@@ -12,7 +12,7 @@ use Rattle.sdb_model.specs.Counted.{prepares_in}
 use Rattle.sdb_model.specs.Exec.{Tables}
 use Rattle.sdb_model.specs.Transactions.{Executed, point, prepares}
 use Rattle.law_clients.specs.Keys.{keys_written, with_keys}
-use Rattle.law_runs.specs.Found.{AllRunAs, View, answered_inside, finds, nothing_found, run_one, with_found}
+use Rattle.law_runs.specs.Found.{AllRunAs, AreUnder, View, answered_inside, finds, nothing_found, run_found, with_found}
 use Rattle.law_runs.specs.Laws.{row_put}
 
 ---- keys that are written
@@ -27,7 +27,8 @@ keys_by catalog (Some s) d = keys_written catalog s d
 abbrev pub written_on_found : List Table → List (List (Key × Option Record)) → List (Option Statement) → View → List Key → List Key
 written_on_found catalog [] ss v ks = ks
 written_on_found catalog (f ∷ fs) [] v ks = ks
-written_on_found catalog (f ∷ fs) (s ∷ ss) v ks = written_on_found catalog fs ss (run_one catalog s (with_found catalog v f)).1 (with_keys ks (keys_by catalog s (with_found catalog v f).rows))
+written_on_found catalog (f ∷ fs) (s ∷ ss) v ks =
+    written_on_found catalog fs ss (run_found catalog s v f).1 (with_keys ks (keys_by catalog s (with_found catalog v f).rows))
 
 -- those that statements of a client write, which run as these
 abbrev pub keys_of : List Table → List Event → ℕ → List Executed → List (Option Statement) → List Key
@@ -54,16 +55,24 @@ pub record PreparesAll (keys : List Key) (id : TxId) (calls : List StoreCall) : 
   pub prepared : keys_prepared id calls ≡ take count keys
   pub decided : (m : StoreCall) → Contains calls m → PutsCommitted id m → keys_applied id (calls_before m.at calls) ≡ keys
 
--- A COMMIT of a transaction, and what its answered statements run as (`RunsOnFound` has them).
-pub record CommitOf (events : List Event) (client : ℕ) (s : Executed) (id : TxId) : Type 0 where
+-- A COMMIT of a transaction, and what its answered statements run as, and under which catalog (`RunsOnFound` has them).
+pub record CommitOf (catalog : List Table) (events : List Event) (client : ℕ) (s : Executed) (id : TxId) : Type 0 where
   pub commit : IsCommitOf events client s id
+  pub under : List Table
+  pub accepted : AreUnder catalog events under (answered_inside events id)
   pub statements : List (Option Statement)
   pub run : AllRunAs (answered_inside events id) statements
+
+-- the keys that those statements wrote on what they found
+abbrev pub written_before : (catalog : List Table) (events : List Event) (client : ℕ) (s : Executed) (id : TxId)
+    → CommitOf catalog events client s id → List Key
+written_before catalog events client s id x = keys_of x.under events client (answered_inside events id) x.statements
 
 -- Each COMMIT, answered or not, prepares the keys that the statements of its transaction wrote.
 abbrev pub CommitsPrepareWritten : List Table → List Event → Type 0
 CommitsPrepareWritten catalog events =
-    (client : ℕ) (s : Executed) (id : TxId) (x : CommitOf events client s id) → PreparesAll (keys_of catalog events client (answered_inside events id) x.statements) id (calls_of events client s)
+    (client : ℕ) (s : Executed) (id : TxId) (x : CommitOf catalog events client s id)
+    → PreparesAll (written_before catalog events client s id x) id (calls_of events client s)
 
 ---- one that decides
 
@@ -77,11 +86,16 @@ pub record Decides (events : List Event) (client : ℕ) (s : Executed) (id : TxI
 -- Such a COMMIT makes as many prepares as keys were written.
 abbrev pub PreparesAreAsMany : List Table → List Event → Type 0
 PreparesAreAsMany catalog events =
-    (client : ℕ) (s : Executed) (id : TxId) (m : StoreCall) (x : CommitOf events client s id) → Decides events client s id m → length (prepares_in id (calls_of events client s)) ≡ length (keys_of catalog events client (answered_inside events id) x.statements)
+    (client : ℕ) (s : Executed) (id : TxId) (m : StoreCall) (x : CommitOf catalog events client s id) → Decides events client s id m
+    → length (prepares_in id (calls_of events client s)) ≡ length (written_before catalog events client s id x)
+
+-- a call was seen and applied, at a transaction's point or before it
+abbrev pub IsAppliedBy : List Event → TxId → StoreCall → Type 0
+IsAppliedBy events id p = (p.how ≡ Seen) × (p.reply ≡ reply.Applied) × (p.at ≤ point events id)
 
 -- Each prepare of the COMMIT was seen and applied, at the transaction's point or before it, and the call is after that.
 pub record IsAfterPoint (events : List Event) (client : ℕ) (s : Executed) (id : TxId) (m : StoreCall) : Type 0 where
-  pub prepared : (p : StoreCall) → Contains (calls_of events client s) p → prepares id p.request ≡ true → (p.how ≡ Seen) × (p.reply ≡ reply.Applied) × (p.at ≤ point events id)
+  pub prepared : (p : StoreCall) → Contains (calls_of events client s) p → prepares id p.request ≡ true → IsAppliedBy events id p
   pub decides : point events id < m.at
 
 -- This holds of each.

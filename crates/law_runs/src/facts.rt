@@ -3,10 +3,10 @@
 ghost use Rattle.std.specs.Prelude.{◌≡◌, true, ◌<◌, ◌^◌, All, IfSome};
 ghost use Rattle.std.specs.Str.{IsUtf8};
 ghost use Rattle.sdb_types.specs.Fits.{record_fits};
-ghost use Rattle.sdb_model.specs.Plain.{IsPlainPoint, condition_is_plain, id_is_plain, refusal_is_plain, reply_is_plain, request_is_plain, span_is_plain, table_is_plain, values_are_plain};
+ghost use Rattle.sdb_model.specs.Plain.{IsPlainPoint, altered_is_plain, condition_is_plain, id_is_plain, refusal_is_plain, reply_is_plain, request_is_plain, span_is_plain, table_is_plain, values_are_plain};
 ghost use Rattle.law_runs.specs.Facts.{answer_fits, dump_fits, event_fits, given_fits, outcome_fits};
 
-use sdb_model::{Answer, Event, Outcome, Point, Refusal, TableDump};
+use sdb_model::{Altered, Answer, Event, Outcome, Point, Refusal, TableDump};
 use sdb_types::{
     Condition, Record, Reply, Request, Span, TxId, Txt, Values, key_facts, name_facts,
     record_facts, table_facts, values_facts,
@@ -148,6 +148,17 @@ fn utf8_facts(text: &Txt)
     let _text = text.as_str();
 }
 
+fn altered_facts(altered: Altered)
+    ensures { altered_is_plain altered }
+{
+    match altered {
+        Altered::Refused(number) => {
+            let _number = number;
+        }
+        Altered::Done | Altered::Open => {}
+    }
+}
+
 fn event_facts(event: &Event)
     ensures { event_fits event.now }
 {
@@ -169,6 +180,11 @@ fn event_facts(event: &Event)
         }
         Event::Clock(moment) => {
             let _moment = *moment;
+        }
+        Event::Alter(table, column, _, altered) => {
+            table_facts(table);
+            name_facts(column);
+            altered_facts(*altered);
         }
         Event::Land(number, store, request, _, reply) => {
             let _number = *number;

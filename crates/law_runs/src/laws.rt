@@ -8,7 +8,7 @@ ghost use Rattle.sdb_model.specs.Counted.{AreCounted, AreResolved};
 ghost use Rattle.law_protocol.specs.Spread.{AreAbout};
 ghost use Rattle.law_runs.specs.CommitPaths.{CommitsArePaths, OpenCommitsArePaths};
 ghost use Rattle.law_runs.specs.Complete.{RecoveriesComplete, ResolvedAreNotBusy, SeenAreServed, StatementsComplete, UncontendedCommitsComplete};
-ghost use Rattle.law_runs.specs.Forged.{MeetsMalformed, answers_bad, answers_bad_later, CommitText, FindsMisfit, FindsRow, FindsUnresolved, InsertOn, IsOfOther, IsOtherMoment, SelectOn, IsCommittedRow, UpdateOn, busy_at_once, counted_at_once, counts_over, counts_twice, counts_unread, decides_at_once, decides_early, decides_unapplied, decides_unprepared, duplicates_none, ends_unfinished, faults_at_once, leaves_out, prepares_at, prepares_unwritten, reads_again, reads_and_is_done, reads_for_rolls, rolls_unprepared, answers_rows, answers_two, answers_unread, answers_unrolled};
+ghost use Rattle.law_runs.specs.Forged.{MeetsMalformed, answers_bad, answers_bad_later, CommitText, EmptyTransaction, FindsMisfit, FindsRow, FindsUnresolved, InsertOn, IsOfOther, IsOtherMoment, SelectOn, IsCommittedRow, UpdateOn, busy_at_once, counted_at_once, counts_over, counts_twice, counts_unread, decides_at_once, decides_early, decides_unapplied, decides_unprepared, duplicates_none, ends_unfinished, faults_at_once, leaves_out, prepares_at, prepares_unwritten, reads_again, reads_and_is_done, reads_for_rolls, rolls_unprepared, answers_rows, answers_two, answers_unread, answers_unrolled};
 ghost use Rattle.law_runs.specs.Found.{ReadsAreNew, RunsOnFound};
 ghost use Rattle.law_runs.specs.Laws.{BusyIsOfReads, CallsAreOfStatements, DecisionsAreDue, ExecutionOf, FollowsMoves, RulesHold, PreparesAreOwn, ReadsAreFew};
 ghost use Rattle.law_runs.specs.Malformed.{MalformedAreAnswered, MalformedEndAtOnce, VacuumsMeetMalformed};
@@ -78,9 +78,10 @@ pub fn vacuums_are_complete()
     ensures { (x : ExecutionOf) → VacuumsAreComplete x.script.catalog x.events }
 {}
 
-/// The answered statements of each transaction's body, recorded or not, give the answers that its client got where they run one after the
-/// other, each on what the transaction has found so far, with what it made of it; and none of them reads at a key where the row found doesn't
-/// fit its table. What a statement found that was refused, or met such a row, is found too.
+/// The answered statements of each transaction's body, recorded or not, were accepted under one catalog, with the columns that were added
+/// before; and they give the answers that its client got where they run under it one after the other, each on what the transaction has found
+/// so far, with what it made of it; and none of them reads at a key where the row found doesn't fit its table. What a statement found that was
+/// refused, or met such a row, is found too.
 pub fn transactions_run_on_found()
     ensures { (x : ExecutionOf) → RunsOnFound x.script.catalog x.events }
 {}
@@ -181,7 +182,7 @@ pub fn records_are_sound_at_every_moment()
 pub fn forged_events_are_refused()
     ensures busy { (text : List ℕ) (key : Key) (id : TxId) (at : ℤ) → reads_commit text ≡ true → BusyIsOfReads (busy_at_once text key id at) → ⊥ }
     ensures idle_busy { (text : List ℕ) (key : Key) (id : TxId) (at : ℤ) → ResolvedAreNotBusy (busy_at_once text key id at) → ⊥ }
-    ensures faulted { (catalog : List Table) (begin commit : List ℕ) → reads_begin begin ≡ true → reads_commit commit ≡ true → UncontendedCommitsComplete catalog (faults_at_once begin commit) → ⊥ }
+    ensures faulted { (catalog : List Table) (t : EmptyTransaction) → UncontendedCommitsComplete catalog (faults_at_once t) → ⊥ }
     ensures vacuumed { (t : Table) (text : List ℕ) → reads_vacuum text ≡ true → VacuumsAreComplete (t ∷ []) (counted_at_once text) → ⊥ }
     ensures begun { (text : List ℕ) (key : Key) → reads_begin text ≡ true → ReadsAreFew (reads_and_is_done text key) → ⊥ }
     ensures prepared { (text : List ℕ) (w : Write) (id : TxId) (now : ℤ) → IsOtherMoment id now → PreparesAreOwn (prepares_at text w id now) → ⊥ }

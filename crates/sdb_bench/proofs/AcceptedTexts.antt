@@ -71,6 +71,7 @@ event_more clients c past n (event.Call d store q how r (Some a)) may h =
 event_more clients c past n (event.Call d store q how r None) may h = h ∙ ap (λ (m : ℕ). take m (texts_of clients c)) (plain (takes_of c past))
 event_more clients c past n (event.Stop d) may h = h ∙ ap (λ (m : ℕ). take m (texts_of clients c)) (plain (takes_of c past))
 event_more clients c past n (event.Clock d) may h = h ∙ ap (λ (m : ℕ). take m (texts_of clients c)) (plain (takes_of c past))
+event_more clients c past n (event.Alter table column kind altered) may h = h ∙ ap (λ (m : ℕ). take m (texts_of clients c)) (plain (takes_of c past))
 event_more clients c past n (event.Idle d) may h = h ∙ ap (λ (m : ℕ). take m (texts_of clients c)) (plain (takes_of c past))
 event_more clients c past n (event.Land k store q how r) may h = h ∙ ap (λ (m : ℕ). take m (texts_of clients c)) (plain (takes_of c past))
 
@@ -88,12 +89,14 @@ step_may clients c allowed past (event.Call d store q how r a) true true h = tt
 step_may clients c allowed past (event.Take d text a) true true h = absurd h
 step_may clients c allowed past (event.Stop d) true true h = absurd h
 step_may clients c allowed past (event.Clock d) true true h = absurd h
+step_may clients c allowed past (event.Alter table column kind altered) true true h = absurd h
 step_may clients c allowed past (event.Idle d) true true h = absurd h
 step_may clients c allowed past (event.Land k store q how r) true true h = absurd h
 step_may clients c allowed past (event.Take d text a) true false h = subst (λ (x : ℕ). slice_get (texts_of clients x) (takes_of x past) ≡ Some text) (sym h.0) h.1
 step_may clients c allowed past (event.Call d store q how r a) true false h = tt
 step_may clients c allowed past (event.Stop d) true false h = tt
 step_may clients c allowed past (event.Clock d) true false h = tt
+step_may clients c allowed past (event.Alter table column kind altered) true false h = tt
 step_may clients c allowed past (event.Idle d) true false h = tt
 step_may clients c allowed past (event.Land k store q how r) true false h = tt
 step_may clients c allowed past e false waits h = subst (MayCome clients past) (sym h) tt
@@ -108,17 +111,19 @@ landing_may clients k past (event.Take c text answer) (Some q) h = absurd h
 landing_may clients k past (event.Call c store q how r a) (Some asked) h = tt
 landing_may clients k past (event.Stop c) (Some q) h = tt
 landing_may clients k past (event.Clock moment) (Some q) h = tt
+landing_may clients k past (event.Alter table column kind altered) (Some q) h = tt
 landing_may clients k past (event.Idle c) (Some q) h = tt
 landing_may clients k past (event.Land n store q how r) (Some asked) h = tt
 
-acted : (clients : List ScriptClient) (a : Act) (past : List Event) (e : Event) → IsActed clients a past e → AreTaken clients past → AreTaken clients (past ++ e ∷ [])
-acted clients (act.Step c) past e h = stepped clients c IsHowOfStep past e h
-acted clients (act.Lose c) past e h = stepped clients c IsHowOfLose past e h
-acted clients (act.Discard c) past e h = stepped clients c IsHowOfDiscard past e h
-acted clients (act.Delay c) past e h = stepped clients c IsHowOfDelay past e h
-acted clients (act.Land k) past e h = one_more clients past e (landing_may clients k past e (in_flight k past) h)
-acted clients (act.Stop c) past e h = one_more clients past e (subst (MayCome clients past) (sym h) tt)
-acted clients (act.Clock m) past e h = one_more clients past e (subst (MayCome clients past) (sym h) tt)
+acted : (script : Script) (a : Act) (past : List Event) (e : Event) → IsActed script a past e → AreTaken script.clients past → AreTaken script.clients (past ++ e ∷ [])
+acted script (act.Step c) past e h = stepped script.clients c IsHowOfStep past e h
+acted script (act.Lose c) past e h = stepped script.clients c IsHowOfLose past e h
+acted script (act.Discard c) past e h = stepped script.clients c IsHowOfDiscard past e h
+acted script (act.Delay c) past e h = stepped script.clients c IsHowOfDelay past e h
+acted script (act.Land k) past e h = one_more script.clients past e (landing_may script.clients k past e (in_flight k past) h)
+acted script (act.Stop c) past e h = one_more script.clients past e (subst (MayCome script.clients past) (sym h) tt)
+acted script (act.Clock m) past e h = one_more script.clients past e (subst (MayCome script.clients past) (sym h) tt)
+acted script (act.Alter table column kind) past e h = one_more script.clients past e (subst (MayCome script.clients past) (sym h.1) tt)
 
 steps_taken : (clients : List ScriptClient) (c : ℕ) (past es : List Event) → AreStepsOf clients c past es → AreTaken clients past → AreTaken clients (past ++ es)
 steps_taken clients c past [] h t = subst (AreTaken clients) (sym (append-nil past)) t
@@ -129,15 +134,15 @@ rest_taken clients c past [] h t = subst (AreTaken clients) (sym (append-nil pas
 rest_taken clients c past (e ∷ es) (d, turn, step, rest) t =
     subst (AreTaken clients) (assoc past (e ∷ []) es) (rest_taken clients (d + 1) (past ++ e ∷ []) es rest (stepped clients d IsHowOfStep past e step t))
 
-move_taken : (clients : List ScriptClient) (m : Move) (past es : List Event) → IsOfMove clients m past es → AreTaken clients past → AreTaken clients (past ++ es)
-move_taken clients (move.Act a) past es (e, one, h) t = subst (λ (xs : List Event). AreTaken clients (past ++ xs)) (sym one) (acted clients a past e h t)
-move_taken clients (move.Repeat c times) past es h t = steps_taken clients c past es h.1 t
-move_taken clients move.Rest past es h t = rest_taken clients 1 past es h t
+move_taken : (script : Script) (m : Move) (past es : List Event) → IsOfMove script m past es → AreTaken script.clients past → AreTaken script.clients (past ++ es)
+move_taken script (move.Act a) past es (e, one, h) t = subst (λ (xs : List Event). AreTaken script.clients (past ++ xs)) (sym one) (acted script a past e h t)
+move_taken script (move.Repeat c times) past es h t = steps_taken script.clients c past es h.1 t
+move_taken script move.Rest past es h t = rest_taken script.clients 1 past es h t
 
-moves_taken : (clients : List ScriptClient) (ms : List Move) (past es : List Event) → AreOfMoves clients ms past es → AreTaken clients past → AreTaken clients (past ++ es)
-moves_taken clients [] past es h t = subst (AreTaken clients) (sym (ap (λ (xs : List Event). past ++ xs) h ∙ append-nil past)) t
-moves_taken clients (m ∷ ms) past es (front, back, whole, moved, rest) t =
-    subst (AreTaken clients) (assoc past front back ∙ ap (λ (xs : List Event). past ++ xs) (sym whole)) (moves_taken clients ms (past ++ front) back rest (move_taken clients m past front moved t))
+moves_taken : (script : Script) (ms : List Move) (past es : List Event) → AreOfMoves script ms past es → AreTaken script.clients past → AreTaken script.clients (past ++ es)
+moves_taken script [] past es h t = subst (AreTaken script.clients) (sym (ap (λ (xs : List Event). past ++ xs) h ∙ append-nil past)) t
+moves_taken script (m ∷ ms) past es (front, back, whole, moved, rest) t =
+    subst (AreTaken script.clients) (assoc past front back ∙ ap (λ (xs : List Event). past ++ xs) (sym whole)) (moves_taken script ms (past ++ front) back rest (move_taken script m past front moved t))
 
 pub all_taken : (script : Script) (es : List Event) → Follows script es → AreTaken script.clients es
-all_taken script es h = moves_taken script.clients script.moves [] es h (λ c. refl)
+all_taken script es h = moves_taken script script.moves [] es h (λ c. refl)

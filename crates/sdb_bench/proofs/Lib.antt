@@ -1,11 +1,12 @@
 mod Spelled
 mod Drawing
 mod AcceptedTexts
+mod Fixed
 mod Even
 mod Evenness
 mod ReadAs
 mod Bodied
-mod Serial
 mod Playable
+mod Serial
 mod Lines
 pub mod Public

@@ -1,15 +1,15 @@
 -- The transactions of a bench, run whole one after the other, leave even rows.
-use Rattle.std.proofs.Common.{◌≡◌, ℕ, suc, ◌+◌, ◌<◌, true, false, List, [], ◌∷◌, map, sym, ap, subst, ◌∙◌, arith}
+use Rattle.std.proofs.Common.{◌≡◌, ℕ, suc, ◌+◌, ◌<◌, true, false, List, [], ◌∷◌, ◌++◌, drop, map, take, sym, ap, subst, ◌∙◌, arith}
 use Rattle.std.specs.Prelude.{All, ◌==◌, slice_index}
 use Rattle.std.specs.List.{AllByRecursion}
 use Rattle.std.specs.List.Sorted.{IsStrictlyIncreasing}
 use Rattle.std.specs.FinMap.{empty}
-use Rattle.sdb_bench.specs.Types.{Event, Outcome, Pair, Point, Statement, TxId}
+use Rattle.sdb_bench.specs.Types.{Event, Outcome, Pair, Point, Statement, Table, TxId}
 use Rattle.sdb_types.specs.Order.{key_cmp}
 use Rattle.sdb_types.proofs.Public.{all_each, by_test, clash, eq_of}
 use Rattle.sdb_model.specs.Events.{StoreContents}
 use Rattle.sdb_model.specs.Exec.{Tables, exec}
-use Rattle.sdb_model.specs.Serial.{AreBodies, AreRead, IsRun, run_body, serial}
+use Rattle.sdb_model.specs.Serial.{AreRead, AreSteps, Body, IsRun, Step, additions, dumps_of, run_body, serial}
 use Rattle.sdb_model.specs.Transactions.{body, point}
 use Rattle.sdb_bench.specs.Counts.{uneven_of}
 use Rattle.sdb_bench.specs.Script.{bench_clients, bench_script_of}
@@ -19,6 +19,8 @@ use Rattle.sdb_bench.proofs.Even.{AreCells, HasNone, IsEven, all_zero, insert_ze
 use Rattle.sdb_bench.proofs.Evenness.{even_dumps}
 use Rattle.sdb_bench.proofs.ReadAs.{Changes, Closes, Inserts, IsInsert, IsOf, IsUpdate, Opens, Updates}
 use Rattle.sdb_bench.proofs.AcceptedTexts.{AreTaken, all_taken}
+use Rattle.sdb_bench.proofs.Fixed.{AddsNone, moves_add_none, none_between, none_later, same_tables}
+use Rattle.sdb_bench.proofs.Playable.{bench_moves_are}
 use Rattle.law_protocol.proofs.Public.{rest_rising}
 
 ---- one body
@@ -69,12 +71,23 @@ abbrev pub AreOnce : List Point → Type 0
 AreOnce [] = Unit {0}
 AreOnce (p ∷ ps) = AllByRecursion (λ q. p.id ≡ q.id → ⊥) ps × AreOnce ps
 
-after_setup : (n : ℕ) (events : List Event) → AreTaken (bench_clients n) events → (ps : List Point) (bs : List (List Statement)) (d : Tables) → AreBodies events ps bs → AllByRecursion IsOther ps → IsEven d → IsEven (serial bench_catalog bs d).1
-after_setup n events accepted [] [] d read other h = h
-after_setup n events accepted [] (b ∷ bs) d read other h = absurd read
-after_setup n events accepted (p ∷ ps) [] d read other h = absurd read
-after_setup n events accepted (p ∷ ps) (b ∷ bs) d read other h =
-    after_setup n events accepted ps bs (after_body b d) read.1 other.1 (other_even b d (other_body n events p.id b accepted other.0 read.0) h)
+-- the rows that steps leave
+abbrev pub left : List Step → Tables → Tables
+left steps d = (serial bench_catalog steps d).1
+
+-- Where no column is added, the steps after so many events are the bodies alone.
+last_step : (events : List Event) (m : ℕ) (steps : List Step) (Q : Tables → Type 0) (d : Tables) → AllByRecursion AddsNone events → AreSteps events m [] steps → Q d → Q (left steps d)
+last_step events m steps Q d none read h = subst (λ (ss : List Step). Q (left ss d)) (sym (read ∙ none_later events m none)) h
+
+next_step : (events : List Event) (m at : ℕ) (steps : List Step) (b : List Statement) (later : List Step) (Q : Tables → Type 0) (d : Tables) → AllByRecursion AddsNone events → steps ≡ additions (drop m (take at events)) ++ Body b ∷ later → Q (left later (after_body b d)) → Q (left steps d)
+next_step events m at steps b later Q d none whole h =
+    subst (λ (ss : List Step). Q (left ss d)) (sym (whole ∙ ap (λ (ss : List Step). ss ++ Body b ∷ later) (none_between events m at none))) h
+
+after_setup : (n : ℕ) (events : List Event) → AreTaken (bench_clients n) events → AllByRecursion AddsNone events → (m : ℕ) (ps : List Point) (steps : List Step) (d : Tables) → AreSteps events m ps steps → AllByRecursion IsOther ps → IsEven d → IsEven (left steps d)
+after_setup n events accepted none m [] steps d read other h = last_step events m steps IsEven d none read h
+after_setup n events accepted none m (p ∷ ps) steps d (b, later, whole, body_read, rest) other h =
+    next_step events m p.event steps b later IsEven d none whole
+    (after_setup n events accepted none p.event ps later (after_body b d) rest other.1 (other_even b d (other_body n events p.id b accepted other.0 body_read) h))
 
 same_id : (id : TxId) → (id.0 == setup_id.0) ≡ true → id ≡ setup_id
 same_id id e = let same : id.0 ≡ setup_id.0 = eq_of id.0 setup_id.0 e in λ i. record { 0 = same i }
@@ -82,19 +95,18 @@ same_id id e = let same : id.0 ≡ setup_id.0 = eq_of id.0 setup_id.0 e in λ i.
 other_id : (id : TxId) → (id.0 == setup_id.0) ≡ false → id ≡ setup_id → ⊥
 other_id id e same = clash (sym (ap (λ (x : TxId). x.0 == setup_id.0) same) ∙ e)
 
-before_setup : (n : ℕ) (events : List Event) → AreTaken (bench_clients n) events → (ps : List Point) (bs : List (List Statement)) (d : Tables) → AreBodies events ps bs → AreOnce ps → HasNone d → IsEven (serial bench_catalog bs d).1
-before_setup n events accepted [] [] d read once h = (all_zero, none_zero d h)
-before_setup n events accepted [] (b ∷ bs) d read once h = absurd read
-before_setup n events accepted (p ∷ ps) [] d read once h = absurd read
-before_setup n events accepted (p ∷ ps) (b ∷ bs) d read once h =
-    by_test (p.id.0 == setup_id.0)
+before_setup : (n : ℕ) (events : List Event) → AreTaken (bench_clients n) events → AllByRecursion AddsNone events → (m : ℕ) (ps : List Point) (steps : List Step) (d : Tables) → AreSteps events m ps steps → AreOnce ps → HasNone d → IsEven (left steps d)
+before_setup n events accepted none m [] steps d read once h = last_step events m steps IsEven d none read (all_zero, none_zero d h)
+before_setup n events accepted none m (p ∷ ps) steps d (b, later, whole, body_read, rest) once h =
+    next_step events m p.event steps b later IsEven d none whole
+    (by_test (p.id.0 == setup_id.0)
     (λ e.
     let own : p.id ≡ setup_id = same_id p.id e in
-    let inserts : AllByRecursion IsInsert b = setup_body n events b accepted (subst (λ (id : TxId). AreRead (body events id) b) own read.0) in
-    after_setup n events accepted ps bs (after_body b d) read.1 (all_each (λ q. p.id ≡ q.id → ⊥) IsOther ps (λ q apart same. apart (own ∙ sym same)) once.0) (setup_even b d inserts h))
+    let inserts : AllByRecursion IsInsert b = setup_body n events b accepted (subst (λ (id : TxId). AreRead (body events id) b) own body_read) in
+    after_setup n events accepted none p.event ps later (after_body b d) rest (all_each (λ q. p.id ≡ q.id → ⊥) IsOther ps (λ q apart same. apart (own ∙ sym same)) once.0) (setup_even b d inserts h))
     (λ e.
-    let updates : AllByRecursion IsUpdate b = other_body n events p.id b accepted (other_id p.id e) read.0 in
-    before_setup n events accepted ps bs (after_body b d) read.1 once.1 (other_none b d updates h))
+    let updates : AllByRecursion IsUpdate b = other_body n events p.id b accepted (other_id p.id e) body_read in
+    before_setup n events accepted none p.event ps later (after_body b d) rest once.1 (other_none b d updates h)))
 
 ---- an order has each transaction once
 
@@ -135,5 +147,7 @@ run_is_even n first last opening closing outcome run =
     let accepted = all_taken (bench_script_of n first last) outcome.events run.follows in
     let once = are_once (point outcome.events) outcome.order (at_points (point outcome.events) outcome.order run.order.points) run.order.rising in
     let none : HasNone (empty {X = List Pair} {R = key_cmp}) = subst (AllByRecursion (λ e. ⊥)) (sym no_entries) tt in
-    let even = before_setup n outcome.events accepted outcome.order run.answered.bodies empty run.answered.read once none in
-    ap uneven_of run.answered.printed ∙ even_dumps (serial bench_catalog run.answered.bodies empty).1 even
+    let fixed = moves_add_none (bench_script_of n first last) (bench_script_of n first last).moves [] outcome.events (bench_moves_are n first last) run.follows in
+    let even = before_setup n outcome.events accepted fixed 0 outcome.order run.answered.steps empty run.answered.read once none in
+    let rows : Tables = left run.answered.steps empty in
+    ap uneven_of (run.answered.printed ∙ ap (λ (ts : List Table). dumps_of ts rows) (same_tables bench_catalog outcome.events fixed)) ∙ even_dumps rows even

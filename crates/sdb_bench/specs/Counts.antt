@@ -23,6 +23,7 @@ is_commit (event.Stop client) = false
 is_commit (event.Clock moment) = false
 is_commit (event.Idle client) = false
 is_commit (event.Land number store request how reply) = false
+is_commit (event.Alter table column kind altered) = false
 
 unfoldable pub is_call : Event → Bool
 is_call (event.Take client text answer) = false
@@ -31,6 +32,7 @@ is_call (event.Stop client) = false
 is_call (event.Clock moment) = false
 is_call (event.Idle client) = false
 is_call (event.Land number store request how reply) = false
+is_call (event.Alter table column kind altered) = false
 
 ---- rows: the values of the columns n, p and v
 

@@ -82,5 +82,6 @@ IsOfNine (move.Act (act.Delay c)) = ⊥
 IsOfNine (move.Act (act.Land k)) = ⊥
 IsOfNine (move.Act (act.Stop c)) = ⊥
 IsOfNine (move.Act (act.Clock moment)) = ⊥
+IsOfNine (move.Act (act.Alter table column kind)) = ⊥
 IsOfNine (move.Repeat c times) = (0 < c) × (c ≤ 9)
 IsOfNine move.Rest = Unit {0}

@@ -40,6 +40,7 @@ fn is_commit(event: &Event) -> bool
         Event::Clock(_) => false,
         Event::Idle(_) => false,
         Event::Land(_, _, _, _, _) => false,
+        Event::Alter(_, _, _, _) => false,
     }
 }
 
@@ -54,6 +55,7 @@ fn is_call(event: &Event) -> bool
         Event::Clock(_) => false,
         Event::Idle(_) => false,
         Event::Land(_, _, _, _, _) => false,
+        Event::Alter(_, _, _, _) => false,
     }
 }
 

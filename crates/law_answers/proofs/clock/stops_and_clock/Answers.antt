@@ -1,4 +1,4 @@
-use Rattle.law_answers.proofs.Whole.{clock_all, idles_all, lands_all, stops_all}
+use Rattle.law_answers.proofs.Whole.{alters_all, clock_all, idles_all, lands_all, stops_all}
 use Rattle.law_answers.proofs.clock.stops_and_clock.Goals as goal
 
 pub returns-clause-stops : goal.returns-clause-stops
@@ -12,3 +12,6 @@ returns-clause-moves x = λ k moment. clock_all k.catalog k.events k.now moment 
 
 pub returns-clause-lands : goal.returns-clause-lands
 returns-clause-lands x = λ k number store q how r. lands_all number store q how r k.tied
+
+pub returns-clause-alters : goal.returns-clause-alters
+returns-clause-alters x = λ k e adds. alters_all k.catalog k.events k.now k.states e adds k.tied
