@@ -38,6 +38,7 @@ can_move n first last (move.Act (act.Delay c)) h = absurd h
 can_move n first last (move.Act (act.Land number)) h = absurd h
 can_move n first last (move.Act (act.Stop c)) h = absurd h
 can_move n first last (move.Act (act.Clock moment)) h = absurd h
+can_move n first last (move.Act (act.Alter table column kind)) h = absurd h
 can_move n first last (move.Repeat c times) h = (h.0, subst (λ (k : ℕ). c ≤ k) (sym (bench_nine n first last)) h.1)
 can_move n first last move.Rest h = tt
 

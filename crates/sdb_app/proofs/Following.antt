@@ -1,8 +1,9 @@
 -- A world that has followed its script on stores that were ready has played it, and its outcome is that of a run.
 use Rattle.std.proofs.Common.{◌≡◌, ◌∙◌, List, [], ◌++◌, Result, Ok, Err, IfErr, IfOk, refl, sym, ap, subst}
 use Rattle.std.specs.FinMap.{empty}
-use Rattle.sdb_app.specs.Types.{CallRefused, ClosingRefused, Event, Key, Outcome, Place, Script}
+use Rattle.sdb_app.specs.Types.{CallRefused, ClosingRefused, Event, Key, Outcome, Place, Script, Table}
 use Rattle.sdb_stores.specs.Views.{Attached}
+use Rattle.sdb_model.specs.Catalogs.{catalog_after}
 use Rattle.sdb_model.specs.Events.{IsTrace, StoreContents}
 use Rattle.sdb_model.specs.Follows.{AreOfMoves, Follows}
 use Rattle.sdb_model.specs.Serial.{IsRun}
@@ -14,13 +15,13 @@ use Rattle.sdb_contents.specs.declared.dump_refused.ClosingRefused.TheVariants a
 use Rattle.sdb_world.specs.Broken.{BreaksWithin}
 use Rattle.sdb_world.specs.Explained.{IsExplained}
 use Rattle.law_runs.specs.World.{WorldAt, state_of}
-use Rattle.sdb_client.specs.Execution.{IsExecution, IsInitial}
+use Rattle.sdb_client.specs.Execution.{IsExecution, IsInitial, IsPath}
 use Rattle.sdb_world.specs.Ran.{HasNotRun, HasRun, HasRunOn, IsOutcomeOf, IsRunExplained, IsReadWhereKnown}
 use Rattle.sdb_contents.specs.Held.{IsOddIn}
 use Rattle.sdb_app.proofs.WhereKnown.{ShowsAs, odd_as, read_as, shows_less}
 use Rattle.sdb_world.specs.Step.{HasFollowed}
 use Rattle.sdb_world.proofs.Public.{breaks_more, breaks_still}
-use Rattle.sdb_app.specs.Run.{AreReady, Stops, status_of_call, status_of_closing}
+use Rattle.sdb_app.specs.Run.{AreReady, IsOddAfter, Stops, status_of_call, status_of_closing}
 use Rattle.sdb_stores.specs.Views.{HaveRisen}
 use Rattle.sdb_shell.proofs.Public.{map_ok}
 
@@ -28,14 +29,14 @@ pub has_followed : (old new : Attached) (script : Script) (w v : WorldAt) → w.
 has_followed old new script w v same none came =
     let all : v.events ≡ came.es = came.gone.events ∙ ap (λ (xs : List Event). xs ++ came.es) none in
     subst (λ (xs : List Event). Follows script xs) (sym all)
-    (subst (λ (s : Script). AreOfMoves s.clients s.moves [] came.es) same (subst (λ (xs : List Event). AreOfMoves w.script.clients w.script.moves xs came.es) none came.so))
+    (subst (λ (s : Script). AreOfMoves s s.moves [] came.es) same (subst (λ (xs : List Event). AreOfMoves w.script w.script.moves xs came.es) none came.so))
 
 -- they are an execution of its clients
 pub executed_played : (old new : Attached) (script : Script) (w v : WorldAt) → w.script ≡ script → w.events ≡ [] → IsInitial w.script (state_of w) → HasFollowed old new w v → (events : List Event) → events ≡ v.events → IsExecution script events
 executed_played old new script w v same none initial came events is =
     let all : v.events ≡ came.es = came.gone.events ∙ ap (λ (xs : List Event). xs ++ came.es) none in
     subst (λ (xs : List Event). IsExecution script xs) (sym (is ∙ all))
-    (subst (λ (s : Script). IsExecution s came.es) same (record { first = state_of w; last = state_of v; initial = initial; path = came.gone.executed }))
+    (subst (λ (s : Script). IsExecution s came.es) same (record { first = state_of w; last = state_of v; initial = initial; path = subst (λ (past : List Event). IsPath w.script past (state_of w) came.es (state_of v)) none came.gone.executed }))
 
 has_played : (old new : Attached) (script : Script) (w v : WorldAt) → w.script ≡ script → w.events ≡ [] → IsInitial w.script (state_of w) → HasFollowed old new w v → AreReady script old → HasRun v (contents_of_views old.views) (contents_of_views new.views)
 has_played old new script w v same none initial came ready =
@@ -77,18 +78,28 @@ module _ (script : Script) (w v : WorldAt) (old mid : Attached) (same : w.script
   none_played never ready = never (contents_of_views old.views) (correct ready)
 
 -- What it has read in the end, and a record that was bad then, seen from its beginning.
-module _ (script : Script) (w v : WorldAt) (old mid : Attached) (same : w.script ≡ script) (came : HasFollowed old mid w v) (goes : GoOn old mid) (new : Attached) where
+module _ (script : Script) (w v : WorldAt) (old mid : Attached) (same : w.script ≡ script) (none : w.events ≡ []) (came : HasFollowed old mid w v) (goes : GoOn old mid) (new : Attached) where
   script_is : v.script ≡ script
   script_is = came.gone.script ∙ same
 
   seen : ShowsAs (known_before old new) (known_before mid new)
   seen = shows_less (known_before old new) (known_before mid new) refl refl goes.where_known
 
-  pub read_played : (o : Outcome) → IsReadWhereKnown v.script.catalog (known_before mid new) o → IsReadWhereKnown script.catalog (known_before old new) o
-  read_played o h = read_as (known_before old new) (known_before mid new) seen script.catalog o (subst (λ (s : Script). IsReadWhereKnown s.catalog (known_before mid new) o) script_is h)
+  -- the last tables
+  last_is : catalog_after v.script.catalog v.events ≡ catalog_after script.catalog v.events
+  last_is = ap (λ (s : Script). catalog_after s.catalog v.events) script_is
 
-  pub odd_played : (key : Key) → IsOddIn v.script.catalog (known_before mid new) key → IsOddIn script.catalog (known_before old new) key
-  odd_played key h = odd_as (known_before old new) (known_before mid new) seen script.catalog key (subst (λ (s : Script). IsOddIn s.catalog (known_before mid new) key) script_is h)
+  pub read_played : (o : Outcome) → o.events ≡ v.events → IsReadWhereKnown (catalog_after v.script.catalog v.events) (known_before mid new) o → IsReadWhereKnown (catalog_after script.catalog o.events) (known_before old new) o
+  read_played o is h =
+      read_as (known_before old new) (known_before mid new) seen (catalog_after script.catalog o.events) o
+      (subst (λ (ts : List Table). IsReadWhereKnown ts (known_before mid new) o) (last_is ∙ ap (catalog_after script.catalog) (sym is)) h)
+
+  pub odd_played : (key : Key) → IsOddIn (catalog_after v.script.catalog v.events) (known_before mid new) key → IsOddAfter script (known_before old new) key
+  odd_played key h = record {
+    events = v.events;
+    follows = has_followed old mid script w v same none came;
+    odd = odd_as (known_before old new) (known_before mid new) seen (catalog_after script.catalog v.events) key (subst (λ (ts : List Table). IsOddIn ts (known_before mid new) key) last_is h);
+  }
 
 -- no more of its calls are Broken than the stores failed
 pub broken_played : (w v : WorldAt) (old mid new : Attached) (events : List Event) → w.events ≡ [] → BreaksWithin w.events v.events old.views mid.views → GoOn mid new → events ≡ v.events → BreaksWithin [] events old.views new.views
@@ -107,7 +118,12 @@ pub err_both : {T E : Type 0} (P Q R : E → Type 0) (r : Result T E) → IfErr 
 err_both P Q R (Ok x) p q h = tt
 err_both P Q R (Err e) p q h = h e p q
 
--- what six clauses say of a result gives what another says
+-- what two clauses say of a result gives what another says
+pub ok_both : {T E : Type 0} (A B Q : T → Type 0) (r : Result T E) → IfOk r A → IfOk r B → ((x : T) → A x → B x → Q x) → IfOk r Q
+ok_both A B Q (Ok x) a b g = g x a b
+ok_both A B Q (Err e) a b g = tt
+
+-- what seven clauses say of a result gives what another says
 pub ok_seven : {T E : Type 0} (A B C D F H K Q : T → Type 0) (r : Result T E) → IfOk r A → IfOk r B → IfOk r C → IfOk r D → IfOk r F → IfOk r H → IfOk r K → ((x : T) → A x → B x → C x → D x → F x → H x → K x → Q x) → IfOk r Q
 ok_seven A B C D F H K Q (Ok x) a b c d f h k g = g x a b c d f h k
 ok_seven A B C D F H K Q (Err e) a b c d f h k g = tt

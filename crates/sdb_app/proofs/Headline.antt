@@ -5,6 +5,7 @@ use Rattle.std.specs.Prelude.{slice_get, IsErrAnd}
 use Rattle.sdb_app.specs.Types.{Event, Key, Outcome, Pair, Place, Script}
 use Rattle.sdb_record.specs.Coordinator.{coordinator_table}
 use Rattle.sdb_stores.specs.Views.{Attached, StoreView as Counted, AreDistinct, HaveRisen, names_of, total_faults}
+use Rattle.sdb_model.specs.Catalogs.{catalog_after}
 use Rattle.sdb_model.specs.declared.answer.Answer.TheVariants as answer
 use Rattle.sdb_model.specs.Counted.{AreResolved}
 use Rattle.sdb_model.specs.Events.{StoreContents, store_of}
@@ -169,7 +170,7 @@ played_on script old mid then new o same still goes fit none quiet run explained
 
 pub outcome_is : (script : Script) (old mid then new : Attached) (o : Outcome) → mid.places ≡ script.places → mid.views ≡ old.views → ((at : ℕ) → old.known at → mid.known at) → GoOn mid then → GoOn then new → (ContentsAreKnown script old → AreUsable script.catalog mid)
     → (AreUsable script.catalog mid → first_key (opening_in script.catalog mid) ≡ None) → HoldNothing (run_tables script.catalog) mid → (AreUsable script.catalog mid → HoldTheSame mid then) → Follows script o.events → IsExecution script o.events → BreaksWithin [] o.events then.views new.views
-    → IsReadWhereKnown script.catalog (known_before then new) o → (AreReady script then → IsRun script (contents_of_views then.views) (contents_of_views new.views) o) → (AreReady script then → IsExplained script o.events (contents_of_views then.views)) → IsPlayable script → HasLines script → outcome_fits o → IsReportable script old new.views o
+    → IsReadWhereKnown (catalog_after script.catalog o.events) (known_before then new) o → (AreReady script then → IsRun script (contents_of_views then.views) (contents_of_views new.views) o) → (AreReady script then → IsExplained script o.events (contents_of_views then.views)) → IsPlayable script → HasLines script → outcome_fits o → IsReportable script old new.views o
 outcome_is script old mid then new o same still where_known goes more fit none nothing quiet follows executed broken read run explained playable lines fits = record {
   playable = playable;
   follows = follows;
@@ -177,7 +178,7 @@ outcome_is script old mid then new o same still where_known goes more fit none n
   caused = caused.caused;
   broken = subst (λ (ss : List Counted). BreaksWithin [] o.events ss new.views) still (breaks_after [] o.events mid then new.views goes broken);
   empty = subst (λ (ss : List Counted). HoldNothing (run_tables script.catalog) (placed_as script old ss)) still (nothing_as (placed_as script old mid.views) mid (shows_placed script old mid same where_known) (run_tables script.catalog) nothing);
-  read = read_as (placed_as script old new.views) (known_before then new) (shows_placed script old (known_before then new) ((more.places ∙ goes.places) ∙ same) (λ at is_known. goes.where_known at (where_known at is_known))) script.catalog o read;
+  read = read_as (placed_as script old new.views) (known_before then new) (shows_placed script old (known_before then new) ((more.places ∙ goes.places) ∙ same) (λ at is_known. goes.where_known at (where_known at is_known))) (catalog_after script.catalog o.events) o read;
   correct = λ all. played_on script old mid then (contents_of_views new.views) o same still goes (fit all) (none (fit all)) (quiet (fit all)) run explained caused (no_coordinator script playable) resolved playable lines executed fits;
 }
   where
@@ -200,7 +201,11 @@ found_first script old mid left key same still where_known fit h = record {
 -- the record that is bad in the end is one of the script's tables
 pub found_bad : (script : Script) (old mid then new : Attached) (key : Key) → mid.places ≡ script.places → ((at : ℕ) → old.known at → mid.known at) → GoOn mid then → GoOn then new → (ContentsAreKnown script old → AreReady script then) → IsBadAfter script then new key → IsBadFound script old new.views key
 found_bad script old mid then new key same where_known goes more ready h = record {
-  odd = odd_as (placed_as script old new.views) (known_before then new) (shows_placed script old (known_before then new) ((more.places ∙ goes.places) ∙ same) (λ at is_known. goes.where_known at (where_known at is_known))) script.catalog key h.odd;
+  odd = record {
+    events = h.odd.events;
+    follows = h.odd.follows;
+    odd = odd_as (placed_as script old new.views) (known_before then new) (shows_placed script old (known_before then new) ((more.places ∙ goes.places) ∙ same) (λ at is_known. goes.where_known at (where_known at is_known))) (catalog_after script.catalog h.odd.events) key h.odd.odd;
+  };
   foreign = λ all. h.foreign (ready all);
 }
 
@@ -214,7 +219,7 @@ made_of script before mid new o same where_known made = record {
   caused = made.caused;
   broken = subst (λ (ss : List Counted). BreaksWithin [] o.events ss new) same made.broken;
   empty = nothing_as (placed_as script before before.views) (placed_as script mid mid.views) (shows_less (placed_as script before before.views) (placed_as script mid mid.views) refl (sym same) where_known) (run_tables script.catalog) made.empty;
-  read = read_as (placed_as script before new) (placed_as script mid new) (shows_less (placed_as script before new) (placed_as script mid new) refl refl where_known) script.catalog o made.read;
+  read = read_as (placed_as script before new) (placed_as script mid new) (shows_less (placed_as script before new) (placed_as script mid new) refl refl where_known) (catalog_after script.catalog o.events) o made.read;
   correct = λ all. subst (λ (ss : List Counted). IsCorrect script (contents_of_views ss) (contents_of_views new) o) same (made.correct (tell_on script before mid same where_known all));
 }
 
@@ -224,7 +229,11 @@ stops_of script before mid left s same where_known h = stops_as before.views mid
   where
     bad : (key : Key) → IsBadFound script mid left key → IsBadFound script before left key
     bad key b = record {
-      odd = odd_as (placed_as script before left) (placed_as script mid left) (shows_less (placed_as script before left) (placed_as script mid left) refl refl where_known) script.catalog key b.odd;
+      odd = record {
+        events = b.odd.events;
+        follows = b.odd.follows;
+        odd = odd_as (placed_as script before left) (placed_as script mid left) (shows_less (placed_as script before left) (placed_as script mid left) refl refl where_known) (catalog_after script.catalog b.odd.events) key b.odd.odd;
+      };
       foreign = λ all. b.foreign (tell_on script before mid same where_known all);
     }
 

@@ -18,7 +18,7 @@ use Rattle.sdb_model.specs.declared.script.Act.TheVariants as act
 use Rattle.sdb_model.specs.declared.script.Move.TheVariants as move
 use Rattle.sdb_model.specs.Exec.{find_table}
 use Rattle.sdb_model.specs.Follows.{texts_of}
-use Rattle.sdb_model.specs.Form.{client_line, lines_of, onto_first}
+use Rattle.sdb_model.specs.Form.{client_line, is_client_name, lines_of, onto_first}
 use Rattle.sdb_model.specs.Plain.{is_one_line, HasLines}
 use Rattle.sdb_script.specs.Lines.{client_lines, is_act, is_client, is_line, is_move, most_line, place_line, text_line}
 use Rattle.sdb_script.specs.Begun.{IsSchema}
@@ -117,6 +117,8 @@ can_act s (act.Delay c) h = numbered (length s.clients) c h
 can_act s (act.Land number) h = tt
 can_act s (act.Stop c) h = numbered (length s.clients) c h
 can_act s (act.Clock moment) h = h
+can_act s (act.Alter table column kind) h =
+    and_second (is_client_name table.table) (is_client_name column) (and_second (is_client_name table.ns) (is_client_name table.table && is_client_name column) h)
 
 can_move : (s : Script) (m : Move) → is_move (length s.clients) m ≡ true → CanMove s m
 can_move s (move.Act a) h = can_act s a h

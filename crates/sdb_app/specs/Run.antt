@@ -2,9 +2,10 @@
 use Rattle.std.specs.Prelude.{◌≡◌, ◌≢◌, ◌⊎◌, ℕ, ◌<◌, true, List, [], length, map, slice_get, All, Contains, Option, None, Some}
 use Rattle.std.specs.List.{AllPairs}
 use Rattle.std.specs.FinMap.{empty}
-use Rattle.sdb_app.specs.Types.{CallRefused, ClosingRefused, Key, Outcome, Place, Script, ScriptRefused, Table, TableName}
+use Rattle.sdb_app.specs.Types.{CallRefused, ClosingRefused, Event, Key, Outcome, Place, Script, ScriptRefused, Table, TableName}
 use Rattle.sdb_types.specs.Bytes.{HasRisen, Takes, IsAtEnd}
 use Rattle.sdb_stores.specs.Views.{Attached, StoreView as Counted, HaveRisen, names_of}
+use Rattle.sdb_model.specs.Catalogs.{catalog_after}
 use Rattle.sdb_model.specs.Causes.{AreCaused}
 use Rattle.sdb_model.specs.Events.{StoreContents, store_of}
 use Rattle.sdb_model.specs.Follows.{Follows}
@@ -69,7 +70,7 @@ pub record IsReportable (script : Script) (old : Attached) (new : List Counted) 
   pub caused : AreCaused script.catalog outcome.events
   pub broken : BreaksWithin [] outcome.events old.views new
   pub empty : HoldNothing (run_tables script.catalog) (placed_as script old old.views)
-  pub read : IsReadWhereKnown script.catalog (placed_as script old new) outcome
+  pub read : IsReadWhereKnown (catalog_after script.catalog outcome.events) (placed_as script old new) outcome
   pub correct : ContentsAreKnown script old → IsCorrect script (contents_of_views old.views) (contents_of_views new) outcome
 
 -- A script was read, and this is the report of one outcome of it. Where the stores of its tables have known contents, no other plain outcome
@@ -90,10 +91,15 @@ pub record IsFirstFound (script : Script) (old : Attached) (left : List Counted)
   pub first : ContentsAreKnown script old → first_key (opening_records script.catalog script.places (contents_of_views old.views)) ≡ Some key
   pub still : ContentsAreKnown script old → contents_of_views left ≡ contents_of_views old.views
 
--- The record at the key breaks the rules of its table, as far as contents are known; which comes only where some store of the script's tables
--- is not known.
+-- The record at the key breaks the rules of its table, as that is after events that follow the script's moves, as far as contents are known.
+pub record IsOddAfter (script : Script) (stores : Attached) (key : Key) : Type 0 where
+  pub events : List Event
+  pub follows : Follows script events
+  pub odd : IsOddIn (catalog_after script.catalog events) stores key
+
+-- A bad record is found only where some store of the script's tables is not known.
 pub record IsBadFound (script : Script) (old : Attached) (left : List Counted) (key : Key) : Type 0 where
-  pub odd : IsOddIn script.catalog (placed_as script old left) key
+  pub odd : IsOddAfter script (placed_as script old left) key
   pub foreign : ContentsAreKnown script old → ⊥
 
 -- Bytes that were read of the input are no script over these stores, for that cause: they are all of it, or more than are read of a
@@ -167,7 +173,7 @@ StopsLook catalog old new = Stops old.views new.views (λ key. ⊥) (IsFoundIn c
 
 -- The record at the key breaks the rules of its table, as far as contents are known, and the stores were not ready for the script.
 pub record IsBadAfter (script : Script) (old new : Attached) (key : Key) : Type 0 where
-  pub odd : IsOddIn script.catalog (known_before old new) key
+  pub odd : IsOddAfter script (known_before old new) key
   pub foreign : AreReady script old → ⊥
 
 -- Why a script that was placed was not run to its end.

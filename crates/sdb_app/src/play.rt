@@ -1,16 +1,16 @@
 //! Running a script on stores.
 ghost use Rattle.std.specs.Prelude.{◌≡◌, ◌<◌, [], length, Some, None, IfOk, IfErr, OnOk};
 ghost use Rattle.sdb_stores.specs.Views.{AreDistinct, names_of};
+ghost use Rattle.sdb_model.specs.Catalogs.{catalog_after};
 ghost use Rattle.sdb_model.specs.Follows.{Follows};
 ghost use Rattle.sdb_model.specs.Plain.{HasLines};
 ghost use Rattle.sdb_model.specs.Serial.{IsRun};
 ghost use Rattle.sdb_contents.specs.Board.{AreUsable, GoOn, HoldTheSame, known_before, contents_of_views};
 ghost use Rattle.sdb_contents.specs.Opening.{HoldNothing, first_key, opening_in, run_tables};
-ghost use Rattle.sdb_contents.specs.Held.{IsOddIn};
 ghost use Rattle.sdb_world.specs.Broken.{BreaksWithin};
 ghost use Rattle.sdb_client.specs.Execution.{IsExecution, IsPlayable};
 ghost use Rattle.sdb_world.specs.Explained.{IsExplained};
-ghost use Rattle.sdb_world.specs.Ran.{HasNotRun, IsOutcomeOf, IsRunExplained, IsReadWhereKnown};
+ghost use Rattle.sdb_world.specs.Ran.{HasNotRun, IsOddAtEnd, IsOutcomeOf, IsRunExplained, IsReadWhereKnown};
 ghost use Rattle.law_runs.specs.World.{IsWorld};
 ghost use Rattle.law_runs.specs.Facts.{outcome_fits};
 ghost use Rattle.sdb_world.specs.Step.{CanFollow};
@@ -84,10 +84,10 @@ fn ended<R: Registry>(alloc: Global, stores: &mut R, world: World) -> Result<Out
     ensures fits { IfOk result outcome_fits }
     ensures explained { IfOk result (λ o. IsRunExplained world (R.state stores.old) o.events) }
     ensures run { IfOk result (IsOutcomeOf world (R.state stores.old) (R.state stores.new)) }
-    ensures read { IfOk result (IsReadWhereKnown world.script.catalog (known_before (R.state stores.old) (R.state stores.new))) }
+    ensures read { IfOk result (IsReadWhereKnown (catalog_after world.script.catalog world.events) (known_before (R.state stores.old) (R.state stores.new))) }
     ensures goes { GoOn (R.state stores.old) (R.state stores.new) }
     ensures err { IfErr result (Stops (R.state stores.old).views (R.state stores.new).views (λ key. HasNotRun world (R.state stores.old)) (λ key. ⊥)) }
-    ensures bad { IfErr result (Stops (R.state stores.old).views (R.state stores.new).views (IsOddIn world.script.catalog (known_before (R.state stores.old) (R.state stores.new))) (λ key. ⊥)) }
+    ensures bad { IfErr result (Stops (R.state stores.old).views (R.state stores.new).views (IsOddAtEnd world (R.state stores.old) (R.state stores.new)) (λ key. ⊥)) }
 {
     match world.outcome(alloc, stores) {
         Ok(outcome) => {
@@ -108,7 +108,7 @@ fn run_world<R: Registry>(alloc: Global, stores: &mut R, script: Script) -> Resu
     ensures fits { IfOk result outcome_fits }
     ensures broken { IfOk result (λ o. BreaksWithin [] o.events (R.state stores.old).views (R.state stores.new).views) }
     ensures explained { IfOk result (λ o. AreReady script (R.state stores.old) → IsExplained script o.events (contents_of_views (R.state stores.old).views)) }
-    ensures read { IfOk result (IsReadWhereKnown script.catalog (known_before (R.state stores.old) (R.state stores.new))) }
+    ensures read { IfOk result (λ o. IsReadWhereKnown (catalog_after script.catalog o.events) (known_before (R.state stores.old) (R.state stores.new)) o) }
     ensures run { IfOk result (λ o. AreReady script (R.state stores.old) → IsRun script (contents_of_views (R.state stores.old).views) (contents_of_views (R.state stores.new).views) o) }
     ensures goes { GoOn (R.state stores.old) (R.state stores.new) }
     ensures err { IfErr result (StopsWorld script (R.state stores.old) (R.state stores.new)) }

@@ -1,6 +1,6 @@
 -- What the stores are asked, event by event.
 use Rattle.std.proofs.Common.{◌≡◌, ℕ, suc, List, [], ◌∷◌, ◌++◌, Option, ap, ◌∙◌}
-use Rattle.sdb_world.specs.Types.{Answer, Event, How, Reply, Request}
+use Rattle.sdb_world.specs.Types.{Answer, Event, How, Kind, Reply, Request, TableName}
 use Rattle.sdb_stores.specs.Views.{Attached}
 use Rattle.sdb_model.specs.declared.event.Event.TheVariants as event
 use Rattle.sdb_model.specs.Rows.{Name}
@@ -8,7 +8,7 @@ use Rattle.sdb_contents.specs.Board.{IsDelivered}
 use Rattle.sdb_contents.proofs.Public.{unasked}
 use Rattle.law_runs.specs.World.{WorldAt}
 use Rattle.sdb_world.specs.Asked.{AskedBy, AsksOnce}
-use Rattle.sdb_world.specs.Step.{HasStopped, HasStarted}
+use Rattle.sdb_world.specs.Step.{HasAltered, HasStopped, HasStarted}
 
 -- an event was pushed
 pub asks_pushed : (u w : WorldAt) → u ≡ w → (more : List Event) (e : Event) (a b : Attached) → more ≡ u.events ++ e ∷ [] → AskedBy e a b → AsksOnce a b w.events more
@@ -27,3 +27,6 @@ asks_take w v i a t = record { event = event.Take (suc i) t.text t.answer; came 
 
 pub asks_stop : (w v : WorldAt) (c : ℕ) (a : Attached) → HasStopped w c v → AsksOnce a a w.events v.events
 asks_stop w v c a t = record { event = event.Stop c; came = ap (λ (x : WorldAt). x.events) t.left; asked = unasked a }
+
+pub asks_alter : (w v : WorldAt) (table : TableName) (column : Name) (kind : Kind) (a : Attached) → HasAltered w table column kind v → AsksOnce a a w.events v.events
+asks_alter w v table column kind a t = record { event = event.Alter table column kind t.altered; came = ap (λ (x : WorldAt). x.events) t.left; asked = unasked a }

@@ -1,7 +1,7 @@
 -- How many calls come out Broken, event by event.
 use Rattle.std.proofs.Common.{◌≡◌, inl, inr, ℕ, suc, ◌+◌, ◌≤◌, Bool, true, false, cond, List, [], ◌∷◌, ◌++◌, Option, refl, sym, ap, subst, ◌∙◌, arith}
 use Rattle.std.proofs.lemmas.List.Sums.{sum_by_push}
-use Rattle.sdb_world.specs.Types.{Answer, Event, How, Reply, Request}
+use Rattle.sdb_world.specs.Types.{Answer, Event, How, Kind, Reply, Request, TableName}
 use Rattle.sdb_stores.specs.Views.{Attached, StoreView, HaveRisen, total_faults}
 use Rattle.sdb_model.specs.declared.event.Event.TheVariants as event
 use Rattle.sdb_model.specs.declared.event.How.TheVariants as how
@@ -9,7 +9,7 @@ use Rattle.sdb_model.specs.Rows.{Name}
 use Rattle.sdb_model.specs.Counted.{broken_in, is_broken}
 use Rattle.sdb_contents.specs.Board.{GoOn}
 use Rattle.law_runs.specs.World.{WorldAt}
-use Rattle.sdb_world.specs.Step.{HasStopped, HasStarted}
+use Rattle.sdb_world.specs.Step.{HasAltered, HasStopped, HasStarted}
 use Rattle.sdb_world.specs.Broken.{BreaksWithin}
 
 broken_more : (es : List Event) (e : Event) → broken_in (es ++ e ∷ []) ≡ broken_in es + cond (is_broken e) 1 0
@@ -61,6 +61,9 @@ breaks_take w v i a t = breaks_other w.events v.events (event.Take (suc i) t.tex
 
 pub breaks_stop : (w v : WorldAt) (c : ℕ) (a : List StoreView) → HasStopped w c v → BreaksWithin w.events v.events a a
 breaks_stop w v c a t = breaks_other w.events v.events (event.Stop c) a (ap (λ (x : WorldAt). x.events) t.left) refl
+
+pub breaks_alter : (w v : WorldAt) (table : TableName) (column : Name) (kind : Kind) (a : List StoreView) → HasAltered w table column kind v → BreaksWithin w.events v.events a a
+breaks_alter w v table column kind a t = breaks_other w.events v.events (event.Alter table column kind t.altered) a (ap (λ (x : WorldAt). x.events) t.left) refl
 
 -- one that is Broken only where a count rose
 breaks_one : (es more : List Event) (e : Event) (h : How) (a b : List StoreView) → more ≡ es ++ e ∷ [] → is_broken e ≡ is_failed h → (h ≡ how.Broken → HaveRisen a b) → total_faults a ≤ total_faults b → BreaksWithin es more a b

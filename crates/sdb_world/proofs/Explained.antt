@@ -50,7 +50,7 @@ execution_more old new w v es reached gone =
       first = reached.first;
       last = state_of v;
       initial = reached.initial;
-      path = paths_on w.script w.events es reached.first (state_of w) (state_of v) reached.path gone.executed;
+      path = paths_on w.script [] w.events es reached.first (state_of w) (state_of v) reached.path gone.executed;
     }))
 
 -- one event more
@@ -71,6 +71,6 @@ came_explained old new w v a (h, c) f reached opening moments nothing traced =
       flights = world_flights v h (execution_more old new w v c.es reached c.gone) places opening now (moments ++ now ∷ []) (subst (λ (x : Script). HoldAs x.catalog places opening empty) (sym c.gone.script) nothing) on;
     }
 
-pub on_explained : {T E : Type 0} (r : Result T E) (old new : Attached) (w v : WorldAt) (a : Act) → OnOk r (IsWorld v) → OnOk r (HasCome (IsOne w.script.clients a w.events) old new w v) → OnOk r (IsExplainedAfter old new w v)
+pub on_explained : {T E : Type 0} (r : Result T E) (old new : Attached) (w v : WorldAt) (a : Act) → OnOk r (IsWorld v) → OnOk r (HasCome (IsOne w.script a w.events) old new w v) → OnOk r (IsExplainedAfter old new w v)
 on_explained (Ok x) old new w v a h c = came_explained old new w v a (h, c)
 on_explained (Err e) old new w v a h c = tt

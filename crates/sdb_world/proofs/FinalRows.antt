@@ -1,27 +1,24 @@
 -- The tables that the recorded transactions leave one after the other fit their catalog, and the stores show their rows.
-use Rattle.std.proofs.Common.{◌≡◌, ◌∙◌, inl, inr, ℕ, suc, ◌+◌, ◌-◌, ◌*◌, ◌/◌, ◌%◌, ◌<◌, ◌≤◌, ◌^◌, Bool, true, List, [], ◌∷◌, length, map, Option, Some, None, refl, sym, ap, subst, arith}
+use Rattle.std.proofs.Common.{◌≡◌, inl, inr, ℕ, ◌<◌, ◌^◌, Bool, true, List, [], ◌∷◌, map, Option, Some, refl, sym, ap, subst, arith}
 use Rattle.std.specs.Prelude.{◌↔◌, Contains}
 use Rattle.std.specs.FinMap.{empty}
 use Rattle.std.specs.List.{AllByRecursion}
-use Rattle.std.proofs.lemmas.Nat.{div-add-mod'}
 use Rattle.sdb_world.specs.Types.{Event, Place, Statement, Table, TxId}
 use Rattle.sdb_record.specs.declared.coordinator.Decision.TheVariants.{Committed}
 use Rattle.sdb_model.specs.Events.{IsTrace, StoreContents}
+use Rattle.sdb_model.specs.Catalogs.{catalog_after}
 use Rattle.sdb_model.specs.Exec.{Tables}
-use Rattle.sdb_model.specs.Transactions.{Recorded, Executed}
+use Rattle.sdb_model.specs.Transactions.{Recorded}
 use Rattle.law_protocol.specs.Explained.{IsRunOf, newest_first}
 use Rattle.law_protocol.specs.History.{History, ProtocolState}
-use Rattle.law_protocol.specs.Lawful.{IsLawful, id, protocol_state}
+use Rattle.law_protocol.specs.Lawful.{IsLawful, id}
 use Rattle.law_protocol.specs.Serial.{IsIn}
 use Rattle.law_protocol.specs.Trace.{IsTraced, StartsEmpty, closing, history}
 use Rattle.law_protocol.proofs.Public.{any_key, points_differ, recorded_row, row_recorded, accepted_fits, traced_of, Whole, whole_of}
 use Rattle.law_clients.specs.System.{SystemAt}
-use Rattle.law_clients.proofs.Public.{beyond, order_runs, ran_of, accepted_begun, accepted_counts}
-use Rattle.law_clients.specs.Filed.{number}
-use Rattle.law_clients.specs.Left.{ExecutionOk, ContainsTables}
-use Rattle.law_clients.specs.Story.{Closed, Finished, Opened, Rest, txn_ended_at}
-use Rattle.law_clients.specs.History.{ClientHistory, begun_in, count_of}
-use Rattle.law_clients.specs.Invariant.{RunInvariant, OpenedOk, RanOk}
+use Rattle.law_clients.proofs.Public.{executed_at, now_after, order_runs, ran_of}
+use Rattle.law_clients.specs.Left.{ExecutionOk, ContainsTables, IsFitting}
+use Rattle.law_clients.specs.Invariant.{RunInvariant}
 use Rattle.sdb_contents.proofs.Public.{first_or_later, here_in, later_in, none_in}
 use Rattle.sdb_world.proofs.Orders.{ordered}
 
@@ -42,54 +39,7 @@ of_numbers [] t h = absurd h
 of_numbers (x ∷ xs) t (inl e) = subst (λ (i : TxId). Contains (x ∷ xs) i) (ap id (sym e)) (here_in x xs)
 of_numbers (x ∷ xs) t (inr h) = later_in x (id t) xs (of_numbers xs t h)
 
-module _ (catalog : List Table) (fit : Tables → Bool) (events : List Event) (sys : SystemAt) (doing : ℕ → Option Statement) (g : RunInvariant catalog fit events sys doing) where
-  -- what a client's transaction ran whose COMMIT was accepted
-  ran_by : (c k : ℕ) → suc k < 2 ^ 64 → (protocol_state g.past).accepted (number c k) ≡ true → ExecutionOk catalog fit g.plan g.past (number c k) (g.ran c k)
-  ran_by c k small accepted = by (txn_ended_at x.whole k) refl
-    where
-      x : ClientHistory
-      x = g.answered c
-
-      counts : k < count_of x
-      counts = subst (λ m. k < m) (g.stories c).count (accepted_counts g.plan g.past sys c k g.system small accepted)
-
-      ran : (inside : List Executed) → RanOk catalog fit g.plan g.past (number c k) inside (g.ran c k) → ExecutionOk catalog fit g.plan g.past (number c k) (g.ran c k)
-      ran inside r = record { seen = r.inside.seen; planned = r.planned accepted; body = r.inside.body }
-
-      open_one : (r : Rest) → x.rest ≡ r → length x.whole ≤ k → k < length x.whole + begun_in r → ExecutionOk catalog fit g.plan g.past (number c k) (g.ran c k)
-      open_one (Closed gap) e low high = absurd (none (length x.whole) low high)
-        where
-          none : (m : ℕ) → m ≤ k → k < m + 0 → ⊥
-          none m a b = omega arith
-      open_one (Opened gap b inside) e low high =
-          let at : k ≡ length x.whole = one (length x.whole) low high in
-          ran inside (subst (λ j. RanOk catalog fit g.plan g.past (number c j) inside (g.ran c j)) (sym at) (subst (λ r. OpenedOk catalog fit g.plan g.past (number c (length x.whole)) r (g.ran c (length x.whole))) e (g.clients c).opened))
-        where
-          one : (m : ℕ) → m ≤ k → k < m + 1 → k ≡ m
-          one m a b = omega arith
-
-      by : (o : Option Finished) → txn_ended_at x.whole k ≡ o → ExecutionOk catalog fit g.plan g.past (number c k) (g.ran c k)
-      by (Some f) e = ran f.body ((g.clients c).ended k f e)
-      by None e = open_one x.rest refl (beyond x.whole k e) counts
-
-  -- by its number
-  ran_at : (t : ℕ) → (protocol_state g.past).accepted t ≡ true → ExecutionOk catalog fit g.plan g.past t (ran_of catalog fit events sys doing g t)
-  ran_at t accepted =
-      subst (λ u. ExecutionOk catalog fit g.plan g.past u (ran_of catalog fit events sys doing g t)) whole
-      (ran_by (t / 2 ^ 64) (t % 2 ^ 64 - 1) (subst (λ m. m < 2 ^ 64) ordinal (small t)) (ap (protocol_state g.past).accepted whole ∙ accepted))
-    where
-      positive : (m : ℕ) → 0 < m → m ≡ suc (m - 1)
-      positive m l = omega (arith, l)
-
-      ordinal : t % 2 ^ 64 ≡ suc (t % 2 ^ 64 - 1)
-      ordinal = positive (t % 2 ^ 64) (accepted_begun g.plan g.past sys t g.system accepted)
-
-      small : (m : ℕ) → m % 2 ^ 64 < 2 ^ 64
-      small m = omega arith
-
-      whole : number (t / 2 ^ 64) (t % 2 ^ 64 - 1) ≡ t
-      whole = ap (λ m. t / 2 ^ 64 * 2 ^ 64 + m) (sym ordinal) ∙ div-add-mod' t (2 ^ 64)
-
+module _ (catalog : List Table) (fit : List Table → Tables → Bool) (events : List Event) (sys : SystemAt) (doing : ℕ → Option Statement) (g : RunInvariant catalog fit events sys doing) where
   module _ (places : List Place) (opening end : List StoreContents) (moments : List (List StoreContents)) (trace : IsTrace places events opening moments end) (nothing : StartsEmpty places opening) where
     abbrev held : List (List StoreContents)
     held = newest_first moments
@@ -118,12 +68,12 @@ module _ (catalog : List Table) (fit : Tables → Bool) (events : List Event) (s
         (small, subst (λ s. Recorded places s (id t)) turned.1 (row_recorded g.plan places w g.past (closing opening held) t whole small row))
 
     -- a list of the recorded transactions gives tables that fit, of which the stores show the rows
-    pub tables_left : (ids : List TxId) → ((i : TxId) → Contains ids i → i.0 < 2 ^ 128) → ((i : TxId) → i.0 < 2 ^ 128 → Contains ids i ↔ Recorded places end i) → fit empty ≡ true → (e : Tables) × (fit e ≡ true) × ContainsTables places end e
-    tables_left ids small recorded starts =
+    pub tables_left : (ids : List TxId) → ((i : TxId) → Contains ids i → i.0 < 2 ^ 128) → ((i : TxId) → i.0 < 2 ^ 128 → Contains ids i ↔ Recorded places end i) → IsFitting catalog fit → (e : Tables) × (fit (catalog_after catalog events) e ≡ true) × ContainsTables places end e
+    tables_left ids small recorded fitting =
         let o = ordered w (points_differ g.plan w whole.all) (numbers ids)
         (λ t row. let r = recorded_is t row in in_numbers ids (id t) ((recorded (id t) r.0).1 r.1))
         (λ t h. let c = of_numbers ids t h in row_is t (small (id t) c) ((recorded (id t) (small (id t) c)).0 c)) in
         let ran = all_in (λ t. ExecutionOk catalog fit g.plan g.past t (ran_of catalog fit events sys doing g t)) o.0
-        (λ t h. ran_at t (subst (λ (x : ProtocolState). x.accepted t ≡ true) (sym whole.knows.talks) (accepted t ((o.1.recorded t).1 h)))) in
-        let left = order_runs catalog fit (ran_of catalog fit events sys doing g) o.0 run o.1 ran starts in
-        (left.0, left.1.fits, subst (λ s. ContainsTables places s left.0) turned.1 left.2)
+        (λ t h. (executed_at catalog fit events sys doing g t (subst (λ (x : ProtocolState). x.accepted t ≡ true) (sym whole.knows.talks) (accepted t ((o.1.recorded t).1 h)))).0) in
+        let left = order_runs catalog fit (ran_of catalog fit events sys doing g) o.0 run o.1 ran fitting in
+        (left.0, subst (λ (ts : List Table). fit ts left.0 ≡ true) (now_after catalog g.labelled g.past events g.same g.turned) left.1.fits, subst (λ s. ContainsTables places s left.0) turned.1 left.2)

@@ -15,6 +15,7 @@ use Rattle.sdb_record.specs.Coordinator.{coordinator_table}
 use Rattle.sdb_record.specs.Meta.{id_in}
 use Rattle.sdb_record.specs.Rolls.{image_of, row_of_image}
 use Rattle.sdb_schema.specs.Catalog.{rises, is_above_name}
+use Rattle.sdb_model.specs.Catalogs.{catalog_after}
 use Rattle.sdb_model.specs.Events.{StoreContents, stored_at}
 use Rattle.sdb_model.specs.Exec.{Tables, find_table, row_of_entry}
 use Rattle.sdb_model.specs.Images.{decision_at, decision_on, row_at}
@@ -23,7 +24,7 @@ use Rattle.law_clients.specs.Fitting.{row_is_well_typed, tables_are_well_typed}
 use Rattle.law_clients.specs.Left.{ContainsTables}
 use Rattle.law_clients.proofs.Public.{Entries, is_fitting}
 use Rattle.law_protocol.specs.Spread.{one_store}
-use Rattle.law_protocol.proofs.Public.{one_stored, Single, single}
+use Rattle.law_protocol.proofs.Public.{catalog_moved, one_stored, Single, single}
 use Rattle.sdb_contents.specs.Opening.{records_of}
 use Rattle.sdb_contents.specs.Decided.{recorded_among}
 use Rattle.sdb_contents.proofs.Public.{decision_there, first_or_later, none_in, recorded_all, recorded_has, recorded_small, records_rise}
@@ -82,6 +83,10 @@ module _ (w : WorldAt) (h : IsWorld w) (opening closing : List StoreContents) (p
   abbrev places : List Place
   places = w.script.places
 
+  -- the last tables
+  abbrev tables : List Table
+  tables = catalog_after w.script.catalog w.events
+
   abbrev one : Single w.script.catalog one_name places w.events empty closing
   one = single one_name w.events opening p.moments closing p.traced h.about p.nothing
 
@@ -103,18 +108,20 @@ module _ (w : WorldAt) (h : IsWorld w) (opening closing : List StoreContents) (p
       )
 
   -- the tables that these leave fit, and the stores show their rows
-  left : (e : Tables) × (tables_are_well_typed w.script.catalog e ≡ true) × ContainsTables [] end e
+  left : (e : Tables) × (tables_are_well_typed tables e ≡ true) × ContainsTables [] end e
   left =
       let fitting = is_fitting w.script.catalog h.playable.apart in
       let running = execution_linked w.script w.events h.playable p.executed in
       let states = states_of p.executed.last.client_slots in
-      tables_left w.script.catalog (tables_are_well_typed w.script.catalog) _ (system_of states) (doing_of states) running
-      [] (one_store one_name empty) end one.singles one.traced (starts_empty one_name) (recorded_among rows) (recorded_small rows) recorded_here fitting.starts
+      let there =
+      tables_left w.script.catalog tables_are_well_typed _ (system_of states) (doing_of states) running
+      [] (one_store one_name empty) end one.singles one.traced (starts_empty one_name) (recorded_among rows) (recorded_small rows) recorded_here fitting in
+      (there.0, subst (λ (ts : List Table). tables_are_well_typed ts there.0 ≡ true) (catalog_moved (λ ns. one_name) w.script.catalog w.events) there.1, there.2)
 
   row_same : (key : Key) → is_some (find_table w.script.catalog key.table) ≡ true → row_at places closing key ≡ row_at [] end key
   row_same key table =
       ap (λ (found : Option Record). option_and_then row_of_image (option_and_then (λ r. image_of r (decision_on places closing r)) found)) (one.same.at key (or_first _ _ table) ∙ sym (one_stored one_name one.last key))
       ∙ ap (option_and_then row_of_image) (then_same _ _ (stored_at [] end key) (λ r. ap (image_of r) (then_same _ _ (id_in r.columns) decided_there)))
 
-  pub final_row_fits : (key : Key) (columns : List Pair) → is_some (find_table w.script.catalog key.table) ≡ true → row_at places closing key ≡ Some columns → row_is_well_typed w.script.catalog key columns ≡ true
-  final_row_fits key columns table observed = row_there w.script.catalog left.0 key columns left.1 (sym (left.2 key (h.playable.apart key table)) ∙ sym (row_same key table) ∙ observed)
+  pub final_row_fits : (key : Key) (columns : List Pair) → is_some (find_table w.script.catalog key.table) ≡ true → row_at places closing key ≡ Some columns → row_is_well_typed tables key columns ≡ true
+  final_row_fits key columns table observed = row_there tables left.0 key columns left.1 (sym (left.2 key (h.playable.apart key table)) ∙ sym (row_same key table) ∙ observed)

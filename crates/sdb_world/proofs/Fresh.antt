@@ -11,4 +11,5 @@ initial_new script count client_slots flights events none few h = record { none_
 
 pub world_new : (script : Script) (count : ℕ) (client_slots : List ClientSlot) (flights : List (Option Request)) (events : List Event) → IsPlayable script → flights ≡ [] → count ≡ length script.clients → AreFresh count client_slots → events ≡ [] → IsWorld (record { script = script; client_slots = client_slots; flights = flights; events = events; clock = pos 0 })
 world_new script count client_slots flights events playable none few h empty =
-    subst (λ (fs : List (Option Request)). IsWorld (record { script = script; client_slots = client_slots; flights = fs; events = events; clock = pos 0 })) (sym none) (world_first script count client_slots events playable few h empty)
+    subst (λ (es : List Event). IsWorld (record { script = script; client_slots = client_slots; flights = flights; events = es; clock = pos 0 })) (sym empty)
+    (world_first script (record { client_slots = client_slots; flights = flights; clock = pos 0 }) playable (initial_new script count client_slots flights events none few h))

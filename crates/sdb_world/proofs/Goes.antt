@@ -21,7 +21,7 @@ pub gone_none : (stores : Attached) (w : WorldAt) → IsExecutionStep stores sto
 gone_none stores w = record { script = refl; events = sym (append-nil w.events); executed = refl; traced = λ f. ([], refl) }
 
 -- one event came
-pub gone_one : (old new : Attached) (w v : WorldAt) (e : Event) → v.script ≡ w.script → v.events ≡ w.events ++ e ∷ [] → IsStepFrom w.script (state_of w) e (state_of v)
+pub gone_one : (old new : Attached) (w v : WorldAt) (e : Event) → v.script ≡ w.script → v.events ≡ w.events ++ e ∷ [] → IsStepFrom w.script w.events (state_of w) e (state_of v)
     → (AreUsable w.script.catalog old → Effect old.places e (contents_of_views old.views) (contents_of_views new.views)) → IsExecutionStep old new w v (e ∷ [])
 gone_one old new w v e script events step effect = record { script = script; events = events; executed = (state_of v, step, refl); traced = λ f. (contents_of_views new.views ∷ [], (effect f, refl)) }
 
@@ -30,7 +30,7 @@ pub gone_more : (a b c : Attached) (u v w : WorldAt) (es more : List Event) → 
 gone_more a b c u v w es more goes g h = record {
   script = h.script ∙ g.script;
   events = h.events ∙ ap (λ (xs : List Event). xs ++ more) g.events ∙ append_assoc u.events es more;
-  executed = paths_on u.script es more (state_of u) (state_of v) (state_of w) g.executed (subst (λ (x : Script). IsPath x (state_of v) more (state_of w)) g.script h.executed);
+  executed = paths_on u.script u.events es more (state_of u) (state_of v) (state_of w) g.executed (subst (λ (past : List Event). IsPath u.script past (state_of v) more (state_of w)) g.events (subst (λ (x : Script). IsPath x v.events (state_of v) more (state_of w)) g.script h.executed));
   traced = λ f.
       let s = g.traced f in
       let t = h.traced (subst (λ (x : Script). AreUsable x.catalog b) (sym g.script) (goes.fit u.script.catalog f)) in

@@ -8,6 +8,7 @@ mod Outcomes
 mod Fresh
 mod Works
 mod Takings
+mod Altering
 mod Landings
 mod ClientSteps
 mod Explained

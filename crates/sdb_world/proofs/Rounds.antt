@@ -77,9 +77,9 @@ steps_on clients c past [] more h k = subst (λ (xs : List Event). AreStepsOf cl
 steps_on clients c past (e ∷ es) more h k = (h.0, steps_on clients c (past ++ e ∷ []) es more h.1 (subst (λ (xs : List Event). AreStepsOf clients c xs more) (sym (append_assoc past (e ∷ []) es)) k))
 
 -- so many steps, and one more
-pub steps_more : (clients later : List ScriptClient) (c i : ℕ) (past now es more : List Event) → later ≡ clients → now ≡ past ++ es → AreSteps clients c i past es → IsOne later (act.Step c) now more → AreSteps clients c (i + 1) past (es ++ more)
+pub steps_more : (clients : List ScriptClient) (later : Script) (c i : ℕ) (past now es more : List Event) → later.clients ≡ clients → now ≡ past ++ es → AreSteps clients c i past es → IsOne later (act.Step c) now more → AreSteps clients c (i + 1) past (es ++ more)
 steps_more clients later c i past now es more same at h k =
-    let step : IsStep clients c IsHowOfStep (past ++ es) k.event = step_at clients later c (past ++ es) now k.event same at k.acted in
+    let step : IsStep clients c IsHowOfStep (past ++ es) k.event = step_at clients later.clients c (past ++ es) now k.event same at k.acted in
     let count : length more ≡ 1 = ap length k.lone in
     record {
       count = omega (arith, length-append es more, h.count, count);
@@ -100,10 +100,10 @@ rests_more clients past es from client e before turn step more h =
     (before (e ∷ more) (client, turn, step, subst (λ (xs : List Event). IsRest clients (client + 1) xs more) (sym (append_assoc past es (e ∷ []))) h))
 
 -- the step of the client whose turn it is
-pub rests_on : (clients later : List ScriptClient) (from c : ℕ) (past now es more : List Event) → later ≡ clients → now ≡ past ++ es → Rests clients past es from → IsTurn later now from c → IsOne later (act.Step c) now more → Rests clients past (es ++ more) (c + 1)
+pub rests_on : (clients : List ScriptClient) (later : Script) (from c : ℕ) (past now es more : List Event) → later.clients ≡ clients → now ≡ past ++ es → Rests clients past es from → IsTurn later.clients now from c → IsOne later (act.Step c) now more → Rests clients past (es ++ more) (c + 1)
 rests_on clients later from c past now es more same at before turn k =
     subst (λ (xs : List Event). Rests clients past (es ++ xs) (c + 1)) (sym k.lone)
-    (rests_more clients past es from c k.event before (turn_at clients later from c (past ++ es) now same at turn) (step_at clients later c (past ++ es) now k.event same at k.acted))
+    (rests_more clients past es from c k.event before (turn_at clients later.clients from c (past ++ es) now same at turn) (step_at clients later.clients c (past ++ es) now k.event same at k.acted))
 
 -- none has work
 pub rests_end : (clients : List ScriptClient) (past es : List Event) (from : ℕ) → Rests clients past es from → AllIdle clients (past ++ es) 1 (end_of clients) → IsRest clients 1 past es
@@ -125,28 +125,28 @@ can_repeat script m c times e can = subst (λ (x : Move). CanMove script x) e ca
 -- what an act gives is of the move that is that act
 pub act_moved : {T E : Type 0} (m : Move) (a : Act) (r : Result T E) (old new : Attached) (w v : WorldAt) → m ≡ move.Act a → OnOk r (HasActed a old new w v) → OnOk r (HasMadeMove m old new w v)
 act_moved m a r old new w v is acted =
-    on_ok r acted (λ h. subst (λ (x : Move). HasMadeMove x old new w v) (sym is) (come_as (IsOne w.script.clients a w.events) (IsOfMove w.script.clients (move.Act a) w.events) old new w v h (λ es came one. (one.event, one.lone, one.acted))))
+    on_ok r acted (λ h. subst (λ (x : Move). HasMadeMove x old new w v) (sym is) (come_as (IsOne w.script a w.events) (IsOfMove w.script (move.Act a) w.events) old new w v h (λ es came one. (one.event, one.lone, one.acted))))
 
-pub moved_on : (clients : List ScriptClient) (ms : List Move) (m : Move) (past es more : List Event) → AreOfMoves clients ms past es → IsOfMove clients m (past ++ es) more → AreOfMoves clients (ms ++ m ∷ []) past (es ++ more)
-moved_on clients [] m past es more h k =
-    subst (λ (xs : List Event). AreOfMoves clients (m ∷ []) past (xs ++ more)) (sym h)
-    (more, [], sym (append-nil more), subst (λ (xs : List Event). IsOfMove clients m xs more) (ap (λ (xs : List Event). past ++ xs) h ∙ append-nil past) k, refl)
-moved_on clients (x ∷ xs) m past es more (front, back, same, first, rest) k = (
+pub moved_on : (script : Script) (ms : List Move) (m : Move) (past es more : List Event) → AreOfMoves script ms past es → IsOfMove script m (past ++ es) more → AreOfMoves script (ms ++ m ∷ []) past (es ++ more)
+moved_on script [] m past es more h k =
+    subst (λ (xs : List Event). AreOfMoves script (m ∷ []) past (xs ++ more)) (sym h)
+    (more, [], sym (append-nil more), subst (λ (xs : List Event). IsOfMove script m xs more) (ap (λ (xs : List Event). past ++ xs) h ∙ append-nil past) k, refl)
+moved_on script (x ∷ xs) m past es more (front, back, same, first, rest) k = (
   front,
   back ++ more,
   ap (λ (ys : List Event). ys ++ more) same ∙ append_assoc front back more,
   first,
-  moved_on clients xs m (past ++ front) back more rest (subst (λ (ys : List Event). IsOfMove clients m ys more) (ap (λ (ys : List Event). past ++ ys) same ∙ sym (append_assoc past front back)) k),
+  moved_on script xs m (past ++ front) back more rest (subst (λ (ys : List Event). IsOfMove script m ys more) (ap (λ (ys : List Event). past ++ ys) same ∙ sym (append_assoc past front back)) k),
 )
 
 -- the first i moves and the next
-pub moves_more : (clients : List ScriptClient) (ms : List Move) (i : ℕ) (m : Move) (past es more : List Event) → slice_get ms i ≡ Some m → AreOfMoves clients (take i ms) past es → IsOfMove clients m (past ++ es) more → AreOfMoves clients (take (suc i) ms) past (es ++ more)
-moves_more clients ms i m past es more here h k = subst (λ (xs : List Move). AreOfMoves clients xs past (es ++ more)) (sym (take_suc ms i m here)) (moved_on clients (take i ms) m past es more h k)
+pub moves_more : (script : Script) (ms : List Move) (i : ℕ) (m : Move) (past es more : List Event) → slice_get ms i ≡ Some m → AreOfMoves script (take i ms) past es → IsOfMove script m (past ++ es) more → AreOfMoves script (take (suc i) ms) past (es ++ more)
+moves_more script ms i m past es more here h k = subst (λ (xs : List Move). AreOfMoves script xs past (es ++ more)) (sym (take_suc ms i m here)) (moved_on script (take i ms) m past es more h k)
 
 -- the next move, at equal scripts and events
-pub follows_more : (script later : Script) (i : ℕ) (m : Move) (past now es more : List Event) → later ≡ script → now ≡ past ++ es → slice_get later.moves i ≡ Some m → AreOfMoves script.clients (take i script.moves) past es → IsOfMove later.clients m now more
-    → AreOfMoves script.clients (take (i + 1) script.moves) past (es ++ more)
+pub follows_more : (script later : Script) (i : ℕ) (m : Move) (past now es more : List Event) → later ≡ script → now ≡ past ++ es → slice_get later.moves i ≡ Some m → AreOfMoves script (take i script.moves) past es → IsOfMove later m now more
+    → AreOfMoves script (take (i + 1) script.moves) past (es ++ more)
 follows_more script later i m past now es more same at here h k =
-    subst (λ (n : ℕ). AreOfMoves script.clients (take n script.moves) past (es ++ more)) (sym (add-one i))
-    (moves_more script.clients script.moves i m past es more (subst (λ (x : Script). slice_get x.moves i ≡ Some m) same here) h
-    (subst (λ (xs : List Event). IsOfMove script.clients m xs more) at (subst (λ (x : Script). IsOfMove x.clients m now more) same k)))
+    subst (λ (n : ℕ). AreOfMoves script (take n script.moves) past (es ++ more)) (sym (add-one i))
+    (moves_more script script.moves i m past es more (subst (λ (x : Script). slice_get x.moves i ≡ Some m) same here) h
+    (subst (λ (xs : List Event). IsOfMove script m xs more) at (subst (λ (x : Script). IsOfMove x m now more) same k)))

@@ -7,6 +7,7 @@ use Rattle.sdb_world.specs.Types.{Answer, ClientSlot, Event, Gate, How, Reply, R
 use Rattle.sdb_types.specs.Contents.{CanAnswer}
 use Rattle.sdb_stores.specs.Views.{Attached, home_in, names_of, table_of}
 use Rattle.sdb_model.specs.declared.event.Event.TheVariants as event
+use Rattle.sdb_model.specs.Catalogs.{catalog_after}
 use Rattle.sdb_model.specs.Rows.{Name}
 use Rattle.sdb_model.specs.Events.{store_of, table_asked}
 use Rattle.sdb_model.specs.Follows.{IsHowOfStep, texts_of}
@@ -46,7 +47,7 @@ after_taking u i s d es = record { script = u.script; client_slots = slice_set u
 
 -- A client took its next text.
 pub took : (u w : WorldAt) → u ≡ w → (i : ℕ) (s : ClientSlot) (text : List ℕ) (gate : Gate) (a : Option Answer) (d : ClientAt) (es : List Event) → i < length w.client_slots → s ≡ get_or w.client_slots i s → IsNextText w i text
-    → TextStep (record { catalog = u.script.catalog; now = u.clock; gate = gate; fresh = next_id s.client }) text s.client a d → IsGateAt gate w.client_slots i → d.begun < 2 ^ 64 → es ≡ u.events ++ event.Take (i + 1) text a ∷ [] → HasStarted w i (after_taking u i s d es)
+    → TextStep (record { catalog = catalog_after u.script.catalog u.events; now = u.clock; gate = gate; fresh = next_id s.client }) text s.client a d → IsGateAt gate w.client_slots i → d.begun < 2 ^ 64 → es ≡ u.events ++ event.Take (i + 1) text a ∷ [] → HasStarted w i (after_taking u i s d es)
 took u w same i s text gate a d es low read next takes gated begun came =
     subst (λ (x : WorldAt). HasStarted w i (after_taking x i s d es)) (sym same)
     (record {
@@ -57,7 +58,7 @@ took u w same i s text gate a d es low read next takes gated begun came =
       client = d;
       at = read_there w.client_slots i s low read;
       next = at_read (λ (x : ClientSlot). slice_get (texts_of w.script.clients (suc i)) x.accepted ≡ Some text) w.client_slots i s low read next;
-      takes = subst (λ (x : WorldAt). TextStep (record { catalog = x.script.catalog; now = x.clock; gate = gate; fresh = next_id s.client }) text s.client a d) same takes;
+      takes = subst (λ (x : WorldAt). TextStep (record { catalog = catalog_after x.script.catalog x.events; now = x.clock; gate = gate; fresh = next_id s.client }) text s.client a d) same takes;
       gated = gated;
       begun = begun;
       left = λ k. record { script = w.script; client_slots = slice_set w.client_slots i (record { client = d; accepted = s.accepted + 1; stopped = s.stopped }); flights = w.flights; events = here k; clock = w.clock };

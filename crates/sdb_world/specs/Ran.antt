@@ -2,16 +2,17 @@
 use Rattle.std.specs.Prelude.{◌≡◌, List, map, All, Contains}
 use Rattle.std.specs.List.Sorted.{IsStrictlyIncreasing}
 use Rattle.std.specs.FinMap.{empty}
-use Rattle.sdb_world.specs.Types.{Event, Outcome, Table, TxId}
+use Rattle.sdb_world.specs.Types.{Event, Key, Outcome, Table, TxId}
 use Rattle.sdb_record.specs.Coordinator.{coordinator_table}
+use Rattle.sdb_model.specs.Catalogs.{catalog_after}
 use Rattle.sdb_model.specs.Events.{IsTrace, StoreContents}
 use Rattle.sdb_model.specs.Follows.{Follows}
 use Rattle.sdb_model.specs.Serial.{IsRun}
 use Rattle.sdb_model.specs.Transactions.{Recorded, point}
 use Rattle.law_protocol.specs.Spread.{HoldAs}
 use Rattle.sdb_stores.specs.Views.{Attached}
-use Rattle.sdb_contents.specs.Board.{AreUsable, AreUsableFor, contents_of_views}
-use Rattle.sdb_contents.specs.Held.{AreDumpsWhereKnown, AreWellFormedWhereKnown}
+use Rattle.sdb_contents.specs.Board.{AreUsable, AreUsableFor, contents_of_views, known_before}
+use Rattle.sdb_contents.specs.Held.{AreDumpsWhereKnown, AreWellFormedWhereKnown, IsOddIn}
 use Rattle.law_runs.specs.World.{WorldAt}
 use Rattle.sdb_client.specs.Execution.{IsExecution}
 use Rattle.sdb_world.specs.Explained.{IsExplained}
@@ -44,6 +45,10 @@ pub record IsReadWhereKnown (catalog : List Table) (stores : Attached) (o : Outc
   pub recorded : AreUsableFor coordinator_table stores → (id : TxId) → Contains (map (λ p. p.id) o.order) id → Recorded stores.places (contents_of_views stores.views) id
   pub dumped : AreDumpsWhereKnown catalog stores o.tables
   pub well_formed : AreWellFormedWhereKnown catalog stores
+
+-- The record at a key breaks the rules of its table, as that is after a world's events, as far as contents were known.
+abbrev pub IsOddAtEnd : WorldAt → Attached → Attached → Key → Type 0
+IsOddAtEnd w old new = IsOddIn (catalog_after w.script.catalog w.events) (known_before old new)
 
 -- A world has not run its script on stores that are fit for it.
 abbrev pub HasNotRun : WorldAt → Attached → Type 0

@@ -2,12 +2,18 @@
 use Rattle.std.specs.Prelude.{◌≡◌, ℕ, zero, suc, ◌≤◌, ◌<◌, ◌^◌, true, List, [], ◌∷◌, ◌++◌, length, Option, Some, None, IfSome, slice_get, slice_set}
 use Rattle.std.specs.Option.{option_and_then}
 use Rattle.std.specs.List.{AllByRecursion}
-use Rattle.sdb_world.specs.Types.{Act, Answer, ClientSlot, Event, Gate, How, Move, Reply, Request, Script, ScriptClient}
+use Rattle.sdb_world.specs.Types.{Act, Answer, ClientSlot, Event, Gate, How, Kind, Move, Reply, Request, Script, ScriptClient, Table, TableName}
 use Rattle.sdb_types.specs.Contents.{CanAnswer}
 use Rattle.sdb_record.specs.Meta.{is_moment}
 use Rattle.sdb_model.specs.declared.event.Event.TheVariants as event
 use Rattle.sdb_model.specs.declared.script.Act.TheVariants as act
 use Rattle.sdb_model.specs.declared.script.Move.TheVariants as move
+use Rattle.sdb_record.specs.Parts.{is_column_name}
+use Rattle.sdb_schema.specs.declared.table.Column.{Column}
+use Rattle.sdb_schema.specs.Added.{column_refused, with_column}
+use Rattle.sdb_model.specs.declared.event.Altered.{Altered}
+use Rattle.sdb_model.specs.declared.event.Altered.TheVariants as altered
+use Rattle.sdb_model.specs.Catalogs.{catalog_after}
 use Rattle.sdb_model.specs.Rows.{Name}
 use Rattle.sdb_model.specs.Events.{IsTrace, StoreContents, store_of, table_asked}
 use Rattle.sdb_model.specs.Follows.{AllIdle, AreOfMoves, AreStepsOf, IsActed, IsAmong, IsHowOfDelay, IsHowOfDiscard, IsHowOfLose, IsHowOfStep, IsOfMove, has_work, texts_of}
@@ -17,7 +23,7 @@ use Rattle.sdb_contents.specs.Board.{AreUsable, IsMade, contents_of_views}
 use Rattle.sdb_world.specs.declared.delivery.Delivery.{Delivery}
 use Rattle.sdb_world.specs.declared.delivery.Delivery.TheVariants as way
 use Rattle.law_runs.specs.World.{WorldAt, state_of, with_client, with_event, with_late}
-use Rattle.sdb_client.specs.Execution.{IsGateAt, IsPath, client_after, client_stopped, flights_after}
+use Rattle.sdb_client.specs.Execution.{AlterStep, IsGateAt, IsPath, client_after, client_stopped, flights_after}
 use Rattle.sdb_model.specs.Tables.{is_table_of_run}
 use Rattle.sdb_model.specs.Calls.{is_stored_reply}
 
@@ -25,7 +31,7 @@ use Rattle.sdb_model.specs.Calls.{is_stored_reply}
 abbrev pub IsNumber : Script → ℕ → Type 0
 IsNumber script c = (0 < c) × (c ≤ length script.clients)
 
--- An act that a world can do: its client is one of the script, and its moment one of the clock.
+-- An act that a world can do: its client is one of the script, its moment one of the clock, and its column has the name of one.
 abbrev pub CanAct : Script → Act → Type 0
 CanAct script (act.Step c) = IsNumber script c
 CanAct script (act.Lose c) = IsNumber script c
@@ -34,6 +40,7 @@ CanAct script (act.Delay c) = IsNumber script c
 CanAct script (act.Land number) = Unit {0}
 CanAct script (act.Stop c) = IsNumber script c
 CanAct script (act.Clock moment) = is_moment moment ≡ true
+CanAct script (act.Alter table column kind) = is_column_name column ≡ true
 
 -- which hows a call has, by the way in which it is made
 abbrev pub IsDeliveryOf : Delivery → How → Reply → Type 0
@@ -71,7 +78,7 @@ pub record HasStarted (w : WorldAt) (i : ℕ) (v : WorldAt) : Type 0 where
   pub client : ClientAt
   pub at : slice_get w.client_slots i ≡ Some client_slot
   pub next : slice_get (texts_of w.script.clients (suc i)) client_slot.accepted ≡ Some text
-  pub takes : TextStep (record { catalog = w.script.catalog; now = w.clock; gate = gate; fresh = next_id client_slot.client }) text client_slot.client answer client
+  pub takes : TextStep (record { catalog = catalog_after w.script.catalog w.events; now = w.clock; gate = gate; fresh = next_id client_slot.client }) text client_slot.client answer client
   pub gated : IsGateAt gate w.client_slots i
   pub begun : client.begun < 2 ^ 64
   pub left : v ≡ with_event (with_client w i (client_after client_slot 1 client)) (event.Take (suc i) text answer)
@@ -131,6 +138,20 @@ pub record HasStopped (w : WorldAt) (c : ℕ) (v : WorldAt) : Type 0 where
   pub at : slice_get w.client_slots place ≡ Some client_slot
   pub left : v ≡ with_event (with_client w place (client_stopped client_slot)) (event.Stop c)
 
+---- columns
+
+-- A catalog takes a column of a table and has it then, or refuses it and stays.
+abbrev pub AddsTo : List Table → TableName → Column → Altered → List Table → Type 0
+AddsTo catalog table c altered.Done next = (column_refused catalog table c ≡ None) × (next ≡ with_column catalog table c)
+AddsTo catalog table c (altered.Refused k) next = (column_refused catalog table c ≡ Some k) × (next ≡ catalog)
+AddsTo catalog table c altered.Open next = ⊥
+
+-- A column was to be added to a table.
+pub record HasAltered (w : WorldAt) (table : TableName) (column : Name) (kind : Kind) (v : WorldAt) : Type 0 where
+  pub altered : Altered
+  pub adds : AlterStep (catalog_after w.script.catalog w.events) w.client_slots table (record { name = column; kind = kind }) altered
+  pub left : v ≡ with_event w (event.Alter table column kind altered)
+
 -- the act of a client's step, by the way in which its call is made
 abbrev pub act_of : Delivery → ℕ → Act
 act_of way.Step c = act.Step c
@@ -145,7 +166,7 @@ act_of way.Delay c = act.Delay c
 pub record IsExecutionStep (old new : Attached) (w v : WorldAt) (es : List Event) : Type 0 where
   pub script : v.script ≡ w.script
   pub events : v.events ≡ w.events ++ es
-  pub executed : IsPath w.script (state_of w) es (state_of v)
+  pub executed : IsPath w.script w.events (state_of w) es (state_of v)
   pub traced : AreUsable w.script.catalog old → (moments : List (List StoreContents)) × IsTrace old.places es (contents_of_views old.views) moments (contents_of_views new.views)
 
 -- Events came, and the property holds of them.
@@ -155,10 +176,10 @@ pub record HasCome (P : List Event → Type 0) (old new : Attached) (w v : World
   pub gone : IsExecutionStep old new w v es
 
 -- one event, which is what an act gives
-pub record IsOne (clients : List ScriptClient) (a : Act) (past es : List Event) : Type 0 where
+pub record IsOne (script : Script) (a : Act) (past es : List Event) : Type 0 where
   pub event : Event
   pub lone : es ≡ event ∷ []
-  pub acted : IsActed clients a past event
+  pub acted : IsActed script a past event
 
 -- so many steps of a client
 pub record AreSteps (clients : List ScriptClient) (c times : ℕ) (past es : List Event) : Type 0 where
@@ -167,7 +188,7 @@ pub record AreSteps (clients : List ScriptClient) (c times : ℕ) (past es : Lis
 
 -- One act was done.
 abbrev pub HasActed : Act → Attached → Attached → WorldAt → WorldAt → Type 0
-HasActed a old new w v = HasCome (IsOne w.script.clients a w.events) old new w v
+HasActed a old new w v = HasCome (IsOne w.script a w.events) old new w v
 
 -- So many steps of a client were made.
 abbrev pub HasStepped : ℕ → ℕ → Attached → Attached → WorldAt → WorldAt → Type 0
@@ -175,11 +196,11 @@ HasStepped c times old new w v = HasCome (AreSteps w.script.clients c times w.ev
 
 -- One move was made.
 abbrev pub HasMadeMove : Move → Attached → Attached → WorldAt → WorldAt → Type 0
-HasMadeMove made old new w v = HasCome (IsOfMove w.script.clients made w.events) old new w v
+HasMadeMove made old new w v = HasCome (IsOfMove w.script made w.events) old new w v
 
 -- All moves of its script were made.
 abbrev pub HasFollowed : Attached → Attached → WorldAt → WorldAt → Type 0
-HasFollowed old new w v = HasCome (AreOfMoves w.script.clients w.script.moves w.events) old new w v
+HasFollowed old new w v = HasCome (AreOfMoves w.script w.script.moves w.events) old new w v
 
 ---- moves
 

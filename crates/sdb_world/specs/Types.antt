@@ -13,6 +13,7 @@ pub use Rattle.sdb_model.specs.declared.script.Script.{Script}
 pub use Rattle.sdb_model.specs.declared.script.ScriptClient.{ScriptClient}
 pub use Rattle.sdb_model.specs.declared.statement.Statement.{Statement}
 pub use Rattle.sdb_record.specs.declared.coordinator.Decided.{Decided}
+pub use Rattle.sdb_schema.specs.declared.table.Kind.{Kind}
 pub use Rattle.sdb_schema.specs.declared.table.Table.{Table}
 pub use Rattle.sdb_types.specs.declared.key.Key.{Key}
 pub use Rattle.sdb_types.specs.declared.key.TableName.{TableName}

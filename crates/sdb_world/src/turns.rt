@@ -1,5 +1,5 @@
 //! The moves of a script, one after the other.
-ghost use Rattle.std.specs.Prelude.{◌≡◌, ◌<◌, ◌≤◌, length, Some, IfSome, IfNone, OnOk, slice_get};
+ghost use Rattle.std.specs.Prelude.{◌≡◌, ◌<◌, ◌≤◌, length, Some, IfOk, IfSome, IfNone, OnOk, slice_get};
 ghost use Rattle.sdb_model.specs.Follows.{AllIdle, IsRest, IsTurn, end_of};
 ghost use Rattle.sdb_contents.specs.Board.{GoOn};
 ghost use Rattle.law_runs.specs.World.{IsWorld};
@@ -10,7 +10,7 @@ use crate::delivery::Delivery;
 use crate::world::World;
 use sdb_model::Move;
 use sdb_stores::Registry;
-use sdb_types::NoMemory;
+use sdb_types::{Duplicate, NoMemory};
 
 impl World {
     // The first client with work, from one number up to another, that one left out.
@@ -100,20 +100,20 @@ impl World {
         ensures broken { OnOk result (BreaksWithin self.old.events self.new.events (R.state stores.old).views (R.state stores.new).views) }
         ensures goes { GoOn (R.state stores.old) (R.state stores.new) }
     {
-        match made {
-            Move::Act(act) => self.step(stores, act),
-            Move::Repeat(client, times) => self.repeat(stores, client, times),
+        match &made {
+            Move::Act(act) => self.step(stores, act.copy()?),
+            Move::Repeat(client, times) => self.repeat(stores, *client, *times),
             Move::Rest => self.rest(stores),
         }
     }
 
     // The i-th move of the script.
-    fn move_at(&self, i: usize) -> Move
+    fn move_at(&self, i: usize) -> Result<Move, NoMemory>
         requires { i < length self.now.script.moves }
-        ensures { slice_get self.now.script.moves i ≡ Some result }
+        ensures { IfOk result (λ made. slice_get self.now.script.moves i ≡ Some made) }
     {
         match self.script().moves.at(i) {
-            Some(made) => *made,
+            Some(made) => made.copy(),
             None => unreachable!(),
         }
     }
@@ -129,7 +129,7 @@ impl World {
         ensures goes { GoOn (R.state stores.old) (R.state stores.new) }
     {
         for i in 0..self.script().moves.len() {
-            let made = self.move_at(i);
+            let made = self.move_at(i)?;
             self.make(stores, made)?;
         }
         Ok(())

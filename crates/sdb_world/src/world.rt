@@ -1,5 +1,7 @@
-//! A world, the state of a run: the clients of a script, the requests in flight, and the events so far.
-ghost use Rattle.std.specs.Prelude.{◌≡◌, ◌<◌, ◌≤◌, [], suc, length, Some, IfOk, OnOk, IfSome, slice_get};
+//! A world, the state of a run: the clients of a script, its tables as they are now, the requests in flight, and the events so far.
+ghost use Rattle.std.specs.Prelude.{◌≡◌, ◌<◌, ◌≤◌, true, [], suc, length, Some, IfOk, OnOk, IfSome, slice_get};
+ghost use Rattle.sdb_record.specs.Parts.{is_column_name};
+ghost use Rattle.sdb_model.specs.Catalogs.{catalog_after};
 ghost use Rattle.sdb_model.specs.Follows.{has_work as has_work_lem, texts_of};
 ghost use Rattle.sdb_contents.specs.Board.{GoOn};
 ghost use Rattle.sdb_client.specs.Execution.{IsGateAt, IsInitial, IsPlayable, flights_after};
@@ -7,14 +9,15 @@ ghost use Rattle.law_runs.specs.World.{IsWorld, state_of};
 ghost use Rattle.sdb_world.specs.Asked.{AsksOnce};
 ghost use Rattle.sdb_world.specs.Broken.{BreaksWithin};
 ghost use Rattle.sdb_world.specs.Explained.{IsExplainedAfter};
-ghost use Rattle.sdb_world.specs.Step.{CanAct, HasActed, HasCalled, HasLeft, HasStopped, HasStarted, IsBusyAt, IsIdleAt, LeavesFlight, IsNumber, IsPendingAt, act_of};
+ghost use Rattle.sdb_world.specs.Step.{AddsTo, CanAct, HasActed, HasAltered, HasCalled, HasLeft, HasStopped, HasStarted, IsBusyAt, IsIdleAt, LeavesFlight, IsNumber, IsPendingAt, act_of};
 
 use crate::delivery::Delivery;
 use crate::perform::perform;
 use sdb_client::{ClientSlot, Gate, fresh_slots, gate_at, prove_order};
-use sdb_model::{Act, Event, Events, How, Script, Texts};
+use sdb_model::{Act, Altered, Event, Events, How, Script, Texts};
+use sdb_schema::{Catalog, Column, Kind};
 use sdb_stores::{Registry, table_of};
-use sdb_types::{Duplicate, NoMemory, Request, Txt};
+use sdb_types::{Duplicate, Name, NoMemory, Request, TableName, Txt};
 use std::alloc::Global;
 use std::marker::Model;
 
@@ -29,9 +32,34 @@ fn delay(flights: &mut Vec<Option<Request>>, how: How, request: &Request) -> Res
     Ok(())
 }
 
+// Adds a column to a table, or gives the number of why the catalog refuses it.
+fn add(
+    catalog: &mut Catalog,
+    table: &TableName,
+    column: &Name,
+    kind: Kind,
+) -> Result<Altered, NoMemory>
+    requires name { is_column_name column.now ≡ true }
+    ensures { IfOk result (λ altered. AddsTo catalog.old table.now (record { name = column.now; kind = kind }) altered catalog.new) }
+{
+    let column = Column {
+        name: column.copy()?,
+        kind,
+    };
+    match catalog.add_column(table, column) {
+        Ok(()) => Ok(Altered::Done),
+        Err(refused) => match refused.number() {
+            Some(number) => Ok(Altered::Refused(number)),
+            None => Err(NoMemory),
+        },
+    }
+}
+
 /// The clients of a script at work.
 pub struct World {
     script: Script,
+    // The script's tables, with the columns that were added.
+    catalog: Catalog,
     client_slots: Vec<ClientSlot>,
     // The requests of the calls that were delayed, each none once it has landed.
     flights: Vec<Option<Request>>,
@@ -44,6 +72,7 @@ impl Drop for World {
     fn drop(self) {
         let World {
             script: _,
+            catalog: _,
             client_slots: _,
             flights: _,
             events: _,
@@ -53,11 +82,15 @@ impl Drop for World {
 }
 
 impl Model for World {
+    ghost use Rattle.std.specs.Prelude.{◌≡◌};
+    ghost use Rattle.sdb_model.specs.Catalogs.{catalog_after};
     ghost use Rattle.law_runs.specs.World.{WorldAt};
 
     ghost Value = { WorldAt };
 
     ghost view = { λ w. record { script = w.script; client_slots = w.client_slots.items; flights = w.flights.items; events = w.events; clock = w.clock } };
+
+    ghost invariant = { λ w. w.catalog ≡ catalog_after w.script.catalog w.events };
 }
 
 impl World {
@@ -70,8 +103,10 @@ impl World {
         ensures initial { IfOk result (λ w. IsInitial w.script (state_of w)) }
     {
         let client_slots = fresh_slots(alloc, script.clients.len())?;
+        let catalog = script.catalog.copy()?;
         Ok(World {
             script,
+            catalog,
             client_slots,
             flights: Vec::new(alloc),
             events: Events::new(alloc),
@@ -93,19 +128,21 @@ impl World {
         &self.events
     }
 
-    // The script and what has happened.
-    pub(crate) fn into_parts(self) -> (Script, Events)
+    // The script, its tables as they are now, and what has happened.
+    pub(crate) fn into_parts(self) -> (Script, Catalog, Events)
         ensures script { result.0 ≡ self.script }
-        ensures events { result.1 ≡ self.events }
+        ensures catalog { result.1 ≡ catalog_after self.script.catalog self.events }
+        ensures events { result.2 ≡ self.events }
     {
         let World {
             script,
+            catalog,
             client_slots: _,
             flights: _,
             events,
             clock: _,
         } = self;
-        (script, events)
+        (script, catalog, events)
     }
 
     // The texts of a client's statements.
@@ -165,7 +202,7 @@ impl World {
         let fresh = client_slot.client.next_id();
         let answer = client_slot
             .client
-            .take(&self.script.catalog, &text, gate, fresh, self.clock);
+            .take(&self.catalog, &text, gate, fresh, self.clock);
         let _begun = client_slot.client.begun();
         client_slot.accepted += 1;
         self.events.push(Event::Take(at as u32 + 1, text, answer))?;
@@ -287,10 +324,29 @@ impl World {
         Ok(())
     }
 
+    // A column is to be added to a table: it is where no client that goes on has a transaction open or runs VACUUM, and the catalog takes it.
+    fn alter(&mut self, table: TableName, column: Name, kind: Kind) -> Result<(), NoMemory>
+        requires name { is_column_name column ≡ true }
+        ensures { OnOk result (HasAltered self.old table column kind self.new) }
+    {
+        let gate = self.gate(self.client_slots.len());
+        if gate.vacuum_runs || gate.open_elsewhere {
+            self.events
+                .push(Event::Alter(table, column, kind, Altered::Open))?;
+            return Ok(());
+        }
+        let mut catalog = self.catalog.copy()?;
+        let altered = add(&mut catalog, &table, &column, kind)?;
+        self.events
+            .push(Event::Alter(table, column, kind, altered))?;
+        self.catalog = catalog;
+        Ok(())
+    }
+
     /// Does one act, which gives exactly one event: a step of a client, whose call is made on the store of its table, and whose reply may be
-    /// lost, or which is discarded or delayed; a landing; a stop; or a setting of the clock. On stores that are fit for the run, and that held
-    /// nothing of the script's tables when it began, what is there, and in flight, at each moment is explained by the events, and what each
-    /// recorded transaction read is current at its point. After `NoMemory` the world isn't used again.
+    /// lost, or which is discarded or delayed; a landing; a stop; a setting of the clock; or a column that is to be added to a table. On stores
+    /// that are fit for the run, and that held nothing of the script's tables when it began, what is there, and in flight, at each moment is
+    /// explained by the events, and what each recorded transaction read is current at its point. After `NoMemory` the world isn't used again.
     pub fn step<R: Registry>(&mut self, stores: &mut R, act: Act) -> Result<(), NoMemory>
         requires some { 0 < length (R.state stores.old).views }
         requires world { IsWorld self.old }
@@ -302,16 +358,17 @@ impl World {
         ensures broken { OnOk result (BreaksWithin self.old.events self.new.events (R.state stores.old).views (R.state stores.new).views) }
         ensures goes { GoOn (R.state stores.old) (R.state stores.new) }
     {
-        match act {
-            Act::Step(client) => self.go(stores, client, Delivery::Step),
-            Act::Lose(client) => self.go(stores, client, Delivery::Lose),
-            Act::Discard(client) => self.go(stores, client, Delivery::Discard),
-            Act::Delay(client) => self.go(stores, client, Delivery::Delay),
-            Act::Land(number) => self.land(stores, number),
-            Act::Stop(client) => self.stop(client),
+        match &act {
+            Act::Step(client) => self.go(stores, *client, Delivery::Step),
+            Act::Lose(client) => self.go(stores, *client, Delivery::Lose),
+            Act::Discard(client) => self.go(stores, *client, Delivery::Discard),
+            Act::Delay(client) => self.go(stores, *client, Delivery::Delay),
+            Act::Land(number) => self.land(stores, *number),
+            Act::Stop(client) => self.stop(*client),
+            Act::Alter(table, column, kind) => self.alter(table.copy()?, column.copy()?, *kind),
             Act::Clock(moment) => {
-                self.clock = moment;
-                self.events.push(Event::Clock(moment))?;
+                self.clock = *moment;
+                self.events.push(Event::Clock(*moment))?;
                 Ok(())
             }
         }

@@ -2,13 +2,11 @@ use Rattle.std.proofs.Common.{subst, sym}
 use Rattle.std.proofs.lemmas.Result.{IfOk-from_err}
 use Rattle.sdb_model.specs.declared.script.Script.{Script}
 use Rattle.sdb_contents.proofs.Public.{goes_more, goes_none, some_more}
-use Rattle.sdb_contents.specs.Board.{known_before}
-use Rattle.sdb_contents.specs.Held.{IsOddIn}
-use Rattle.sdb_world.specs.Ran.{HasNotRun}
+use Rattle.sdb_world.specs.Ran.{HasNotRun, IsOddAtEnd}
 use Rattle.sdb_world.specs.Step.{CanFollow}
 use Rattle.sdb_app.specs.declared.status.Status.TheVariants as status
 use Rattle.sdb_app.proofs.Headline.{passed_on, stops_after, stops_both}
-use Rattle.sdb_app.proofs.Following.{broken_played, err_both, executed_played, explained_played, none_played, odd_played, read_played, run_played}
+use Rattle.sdb_app.proofs.Following.{broken_played, err_both, executed_played, explained_played, none_played, odd_played, ok_both, read_played, run_played}
 use Rattle.sdb_shell.proofs.Public.{map_ok}
 use Rattle.sdb_app.proofs.play.run_world.Goals as goal
 
@@ -88,7 +86,7 @@ returns-clause-read g c =
     let old = g.R.Registry.state c.args.stores.now in
     let mid = g.R.Registry.state c.follow.new.stores in
     let new = g.R.Registry.state c.ended.new.stores in
-    map_ok _ _ c.ended.result (λ o. read_played c.args.script c.in_ok-world.world c.follow.new.self old mid before.script made.come made.goes new o) c.ended.ensures.read
+    ok_both _ _ _ c.ended.result c.ended.ensures.events c.ended.ensures.read (λ o is read. read_played c.args.script c.in_ok-world.world c.follow.new.self old mid before.script before.events made.come made.goes new o is read)
 
 pub returns-clause-explained : goal.returns-clause-explained
 returns-clause-explained g c =
@@ -127,10 +125,10 @@ returns-clause-err g c =
     err_both _ _ _ c.ended.result c.ended.ensures.bad c.ended.ensures.err
     (λ s odd unplayed. stops_after old mid new.views _ _ _ _ s made.goes
     (λ key both. record {
-      odd = odd_played script c.in_ok-world.world c.follow.new.self old mid before.script made.come made.goes new key both.0;
+      odd = odd_played script c.in_ok-world.world c.follow.new.self old mid before.script before.events made.come made.goes new key both.0;
       foreign = none_played script c.in_ok-world.world c.follow.new.self old mid before.script before.events before.initial made.come made.goes both.1;
     }) (λ key never. never)
-    (stops_both mid.views new.views _ _ (λ key. IsOddIn c.follow.new.self.script.catalog (known_before mid new) key × HasNotRun c.follow.new.self mid) (λ key. ⊥) s (λ key o n. (o, n)) odd unplayed))
+    (stops_both mid.views new.views _ _ (λ key. IsOddAtEnd c.follow.new.self mid new key × HasNotRun c.follow.new.self mid) (λ key. ⊥) s (λ key o n. (o, n)) odd unplayed))
 
 ---- what the calls require
 

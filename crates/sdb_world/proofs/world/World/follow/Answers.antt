@@ -12,7 +12,7 @@ loop-i-init g c = record {
   world = c.requires.world;
   goes = goes_none (g.R.Registry.state c.args.stores.now);
   broken = breaks_none c.args.self.now.events (g.R.Registry.state c.args.stores.now).views;
-  come = come_none (AreOfMoves c.args.self.now.script.clients (take 0 c.args.self.now.script.moves) c.args.self.now.events) (g.R.Registry.state c.args.stores.now) c.args.self.now refl;
+  come = come_none (AreOfMoves c.args.self.now.script (take 0 c.args.self.now.script.moves) c.args.self.now.events) (g.R.Registry.state c.args.stores.now) c.args.self.now refl;
 }
 
 pub returns-in_err-make-clause-goes : goal.returns-in_err-make-clause-goes
@@ -26,7 +26,7 @@ loop-i-preserved g c =
     let later = c.loop-i.self.script in
     let now = c.loop-i.self.events in
     let i = c.loop-i.i in
-    let made = c.move_at-made.result in
+    let made = c.in_ok-made.made in
     let same : later ≡ script = before.come.gone.script in
     let done = c.in_ok-make.ensures in
     record {
@@ -34,8 +34,8 @@ loop-i-preserved g c =
       world = done.world;
       goes = goes_more _ _ _ before.goes done.goes;
       broken = breaks_more c.args.self.now.events c.loop-i.self.events c.make.new.self.events (g.R.Registry.state c.args.stores.now) (g.R.Registry.state c.loop-i.stores) (g.R.Registry.state c.make.new.stores) before.broken done.goes done.broken;
-      come = come_more (AreOfMoves script.clients (take i script.moves) past) (IsOfMove later.clients made now) (AreOfMoves script.clients (take (i + 1) script.moves) past)
+      come = come_more (AreOfMoves script (take i script.moves) past) (IsOfMove later made now) (AreOfMoves script (take (i + 1) script.moves) past)
           (g.R.Registry.state c.args.stores.now) (g.R.Registry.state c.loop-i.stores) (g.R.Registry.state c.make.new.stores)
           c.args.self.now c.loop-i.self c.make.new.self before.goes before.come done.come
-          (λ es more at h k. follows_more script later i made past now es more same at c.move_at-made.ensures h k);
+          (λ es more at h k. follows_more script later i made past now es more same at c.in_ok-made.ensures h k);
     }

@@ -12,5 +12,5 @@ invariant-loop-i g l = record {
   world : IsWorld l.self;
   goes : GoOn (g.R.Registry.state l.initial.stores) (g.R.Registry.state l.stores);
   broken : BreaksWithin l.initial.self.events l.self.events (g.R.Registry.state l.initial.stores).views (g.R.Registry.state l.stores).views;
-  come : HasCome (AreOfMoves l.initial.self.script.clients (take l.i l.initial.self.script.moves) l.initial.self.events) (g.R.Registry.state l.initial.stores) (g.R.Registry.state l.stores) l.initial.self l.self;
+  come : HasCome (AreOfMoves l.initial.self.script (take l.i l.initial.self.script.moves) l.initial.self.events) (g.R.Registry.state l.initial.stores) (g.R.Registry.state l.stores) l.initial.self l.self;
 }

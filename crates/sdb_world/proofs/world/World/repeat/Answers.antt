@@ -37,9 +37,9 @@ loop-preserved g c =
       world = done.world;
       goes = goes_more _ _ _ before.goes done.goes;
       broken = breaks_more c.args.self.now.events c.loop.self.events c.go.new.self.events (g.R.Registry.state c.args.stores.now) (g.R.Registry.state c.loop.stores) (g.R.Registry.state c.go.new.stores) before.broken done.goes done.broken;
-      come = come_more (AreSteps script.clients c.args.client c.loop.counter past) (IsOne later.clients (act.Step c.args.client) now) (AreSteps script.clients c.args.client (c.loop.counter + 1) past) (g.R.Registry.state c.args.stores.now) (g.R.Registry.state c.loop.stores) (g.R.Registry.state c.go.new.stores)
+      come = come_more (AreSteps script.clients c.args.client c.loop.counter past) (IsOne later (act.Step c.args.client) now) (AreSteps script.clients c.args.client (c.loop.counter + 1) past) (g.R.Registry.state c.args.stores.now) (g.R.Registry.state c.loop.stores) (g.R.Registry.state c.go.new.stores)
           c.args.self.now c.loop.self c.go.new.self before.goes before.come done.acted
-          (λ es more at h k. steps_more script.clients later.clients c.args.client c.loop.counter past now es more (ap (λ (x : Script). x.clients) same) at h k);
+          (λ es more at h k. steps_more script.clients later c.args.client c.loop.counter past now es more (ap (λ (x : Script). x.clients) same) at h k);
     }
 
 pub returns-clause-come : goal.returns-clause-come

@@ -43,8 +43,8 @@ loop-preserved g c =
       high = subst (λ (x : Script). client + 1 ≤ end_of x.clients) (sym done.acted.gone.script) (omega (arith, number.1));
       goes = goes_more _ _ _ before.goes done.goes;
       broken = breaks_more c.args.self.now.events c.loop.self.events c.go.new.self.events (g.R.Registry.state c.args.stores.now) (g.R.Registry.state c.loop.stores) (g.R.Registry.state c.go.new.stores) before.broken done.goes done.broken;
-      come = come_more (λ (es : List Event). Rests script.clients past es c.loop.from) (IsOne later.clients (act.Step client) now) (λ (es : List Event). Rests script.clients past es (client + 1))
+      come = come_more (λ (es : List Event). Rests script.clients past es c.loop.from) (IsOne later (act.Step client) now) (λ (es : List Event). Rests script.clients past es (client + 1))
           (g.R.Registry.state c.args.stores.now) (g.R.Registry.state c.loop.stores) (g.R.Registry.state c.go.new.stores)
           c.args.self.now c.loop.self c.go.new.self before.goes before.come done.acted
-          (λ es more at h k. rests_on script.clients later.clients c.loop.from client past now es more (ap (λ (x : Script). x.clients) same) at h turn k);
+          (λ es more at h k. rests_on script.clients later c.loop.from client past now es more (ap (λ (x : Script). x.clients) same) at h turn k);
     }

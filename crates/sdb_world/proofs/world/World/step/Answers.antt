@@ -1,16 +1,18 @@
 use mir.Val.{of_z, to_z}
-use Rattle.std.proofs.Common.{rules, ◌≡◌, ◌∙◌, ◌++◌, ◌∷◌, [], ℤ, ap, refl, subst, sym, w64}
+use Rattle.std.proofs.Common.{rules, ◌≡◌, ◌∙◌, ◌++◌, ◌∷◌, [], ℤ, true, ap, subst, sym, w64}
+use Rattle.sdb_record.specs.Parts.{is_column_name}
 use Rattle.sdb_model.specs.declared.event.Event.TheVariants as event
 use Rattle.sdb_model.specs.declared.script.Act.{Act}
 use Rattle.sdb_model.specs.declared.script.Act.TheVariants as act
-use Rattle.sdb_world.specs.Step.{HasCome, IsOne}
-use Rattle.sdb_world.proofs.Acts.{Came, acts_stop}
+use Rattle.sdb_model.specs.Rows.{Name}
+use Rattle.sdb_world.specs.Step.{CanAct, HasCome, IsOne}
+use Rattle.sdb_world.proofs.Acts.{Came, acts_alter, acts_stop}
+use Rattle.sdb_world.proofs.Altering.{altered_by}
 use Rattle.sdb_world.proofs.Explained.{came_explained, on_explained}
 use Rattle.sdb_world.proofs.ClientSteps.{goes_clock}
 use Rattle.sdb_world.proofs.Takings.{on_ok}
-use Rattle.sdb_contents.proofs.Public.{unasked}
-use Rattle.sdb_world.proofs.Asked.{asks_pushed, asks_stop}
-use Rattle.sdb_world.proofs.Broken.{breaks_pushed, breaks_stop}
+use Rattle.sdb_world.proofs.Asked.{asks_alter, asks_stop}
+use Rattle.sdb_world.proofs.Broken.{breaks_alter, breaks_stop}
 use Rattle.sdb_world.proofs.world.World.step.Goals as goal
 
 pub returns-in-Stop-clause-world : goal.returns-in-Stop-clause-world
@@ -21,18 +23,18 @@ pub returns-in-Stop-clause-acted : goal.returns-in-Stop-clause-acted
 returns-in-Stop-clause-acted g c =
     let held = g.R.Registry.state c.args.stores.now in
     let w = c.args.self.now in
-    on_ok c.stop.result c.stop.ensures (λ h. subst (λ (a : Act). HasCome (IsOne w.script.clients a w.events) held held w c.stop.new.self) (sym c.in-Stop.is) (acts_stop held w c.stop.new.self c.in-Stop.client c.requires.world h).1)
+    on_ok c.stop.result c.stop.ensures (λ h. subst (λ (a : Act). HasCome (IsOne w.script a w.events) held held w c.stop.new.self) (sym c.in-Stop.is) (acts_stop held w c.stop.new.self c.in-Stop.client c.requires.world h).1)
 
-pub returns-in_ok-push-in-Clock-clause-world : goal.returns-in_ok-push-in-Clock-clause-world
-returns-in_ok-push-in-Clock-clause-world g c =
+pub returns-clause-world : goal.returns-clause-world
+returns-clause-world g c =
     let same : to_z w64 (of_z w64 c.in-Clock.moment) ≡ c.in-Clock.moment = search rules in
     let came = c.in_ok-push-in-Clock.ensures.ok ∙ ap (λ (m : ℤ). c.self.inside.events ++ event.Clock m ∷ []) same in
     let held = g.R.Registry.state c.args.stores.now in
     (subst (λ (z : ℤ). Came held held c.args.self.now c.args.act (record { script = c.self.inside.script; client_slots = c.self.inside.client_slots.items; flights = c.self.inside.flights.items; events = c.push.new.self; clock = z })) (sym same)
     (goes_clock held _ c.args.self.now c.self.view_is c.push.new.self c.args.act c.in-Clock.moment c.requires.world c.in-Clock.is c.requires.act came)).0
 
-pub returns-in_ok-push-in-Clock-clause-acted : goal.returns-in_ok-push-in-Clock-clause-acted
-returns-in_ok-push-in-Clock-clause-acted g c =
+pub returns-clause-acted : goal.returns-clause-acted
+returns-clause-acted g c =
     let same : to_z w64 (of_z w64 c.in-Clock.moment) ≡ c.in-Clock.moment = search rules in
     let came = c.in_ok-push-in-Clock.ensures.ok ∙ ap (λ (m : ℤ). c.self.inside.events ++ event.Clock m ∷ []) same in
     let held = g.R.Registry.state c.args.stores.now in
@@ -65,8 +67,8 @@ returns-in-Stop-clause-explained g c =
     let w = c.args.self.now in
     on_ok c.stop.result c.stop.ensures (λ h. came_explained held held w c.stop.new.self (act.Stop c.in-Stop.client) (acts_stop held w c.stop.new.self c.in-Stop.client c.requires.world h))
 
-pub returns-in_ok-push-in-Clock-clause-explained : goal.returns-in_ok-push-in-Clock-clause-explained
-returns-in_ok-push-in-Clock-clause-explained g c =
+pub returns-clause-explained : goal.returns-clause-explained
+returns-clause-explained g c =
     let same : to_z w64 (of_z w64 c.in-Clock.moment) ≡ c.in-Clock.moment = search rules in
     let came = c.in_ok-push-in-Clock.ensures.ok ∙ ap (λ (m : ℤ). c.self.inside.events ++ event.Clock m ∷ []) same in
     let held = g.R.Registry.state c.args.stores.now in
@@ -74,21 +76,48 @@ returns-in_ok-push-in-Clock-clause-explained g c =
     (subst (λ (z : ℤ). Came held held c.args.self.now c.args.act (record { script = c.self.inside.script; client_slots = c.self.inside.client_slots.items; flights = c.self.inside.flights.items; events = c.push.new.self; clock = z })) (sym same)
     (goes_clock held _ c.args.self.now c.self.view_is c.push.new.self c.args.act c.in-Clock.moment c.requires.world c.in-Clock.is c.requires.act came))
 
+pub returns-in-Alter-clause-world : goal.returns-in-Alter-clause-world
+returns-in-Alter-clause-world g c =
+    let w = c.args.self.now in
+    on_ok c.alter.result c.alter.ensures
+    (λ h. (acts_alter (g.R.Registry.state c.args.stores.now) w c.alter.new.self c.in-Alter.table c.in-Alter.column c.in-Alter.kind c.requires.world
+    (altered_by w c.alter.new.self c.in-Alter.table c.in_ok-copy-in-Alter.field-0 c.in-Alter.column c.in_ok-copy-in-Alter-2.field-0 c.in-Alter.kind c.in_ok-copy-in-Alter.ensures c.in_ok-copy-in-Alter-2.ensures h)).0)
+
+pub returns-in-Alter-clause-acted : goal.returns-in-Alter-clause-acted
+returns-in-Alter-clause-acted g c =
+    let held = g.R.Registry.state c.args.stores.now in
+    let w = c.args.self.now in
+    on_ok c.alter.result c.alter.ensures
+    (λ h. subst (λ (a : Act). HasCome (IsOne w.script a w.events) held held w c.alter.new.self) (sym c.in-Alter.is)
+    (acts_alter held w c.alter.new.self c.in-Alter.table c.in-Alter.column c.in-Alter.kind c.requires.world
+    (altered_by w c.alter.new.self c.in-Alter.table c.in_ok-copy-in-Alter.field-0 c.in-Alter.column c.in_ok-copy-in-Alter-2.field-0 c.in-Alter.kind c.in_ok-copy-in-Alter.ensures c.in_ok-copy-in-Alter-2.ensures h)).1)
+
+pub returns-in-Alter-clause-explained : goal.returns-in-Alter-clause-explained
+returns-in-Alter-clause-explained g c =
+    let held = g.R.Registry.state c.args.stores.now in
+    let w = c.args.self.now in
+    on_ok c.alter.result c.alter.ensures
+    (λ h. came_explained held held w c.alter.new.self (act.Alter c.in-Alter.table c.in-Alter.column c.in-Alter.kind)
+    (acts_alter held w c.alter.new.self c.in-Alter.table c.in-Alter.column c.in-Alter.kind c.requires.world
+    (altered_by w c.alter.new.self c.in-Alter.table c.in_ok-copy-in-Alter.field-0 c.in-Alter.column c.in_ok-copy-in-Alter-2.field-0 c.in-Alter.kind c.in_ok-copy-in-Alter.ensures c.in_ok-copy-in-Alter-2.ensures h)))
+
+pub returns-in-Alter-clause-broken : goal.returns-in-Alter-clause-broken
+returns-in-Alter-clause-broken g c =
+    on_ok c.alter.result c.alter.ensures
+    (λ h. breaks_alter c.args.self.now c.alter.new.self c.in_ok-copy-in-Alter.field-0 c.in_ok-copy-in-Alter-2.field-0 c.in-Alter.kind (g.R.Registry.state c.args.stores.now).views h)
+
+pub returns-in-Alter-clause-asked : goal.returns-in-Alter-clause-asked
+returns-in-Alter-clause-asked g c =
+    on_ok c.alter.result c.alter.ensures
+    (λ h. asks_alter c.args.self.now c.alter.new.self c.in_ok-copy-in-Alter.field-0 c.in_ok-copy-in-Alter-2.field-0 c.in-Alter.kind (g.R.Registry.state c.args.stores.now) h)
+
+pub alter-requires : goal.alter-requires
+alter-requires g c = record {
+  name = subst (λ (n : Name). is_column_name n ≡ true) (sym c.in_ok-copy-in-Alter-2.ensures) (subst (CanAct c.args.self.now.script) c.in-Alter.is c.requires.act);
+}
+
 pub returns-in-Stop-clause-broken : goal.returns-in-Stop-clause-broken
 returns-in-Stop-clause-broken g c = on_ok c.stop.result c.stop.ensures (λ h. breaks_stop c.args.self.now c.stop.new.self c.in-Stop.client (g.R.Registry.state c.args.stores.now).views h)
 
-pub returns-in_ok-push-in-Clock-clause-broken : goal.returns-in_ok-push-in-Clock-clause-broken
-returns-in_ok-push-in-Clock-clause-broken g c =
-    let same : to_z w64 (of_z w64 c.in-Clock.moment) ≡ c.in-Clock.moment = search rules in
-    let came = c.in_ok-push-in-Clock.ensures.ok ∙ ap (λ (m : ℤ). c.self.inside.events ++ event.Clock m ∷ []) same in
-    breaks_pushed _ c.args.self.now c.self.view_is c.push.new.self (event.Clock c.in-Clock.moment) (g.R.Registry.state c.args.stores.now).views came refl
-
 pub returns-in-Stop-clause-asked : goal.returns-in-Stop-clause-asked
 returns-in-Stop-clause-asked g c = on_ok c.stop.result c.stop.ensures (λ h. asks_stop c.args.self.now c.stop.new.self c.in-Stop.client (g.R.Registry.state c.args.stores.now) h)
-
-pub returns-in_ok-push-in-Clock-clause-asked : goal.returns-in_ok-push-in-Clock-clause-asked
-returns-in_ok-push-in-Clock-clause-asked g c =
-    let same : to_z w64 (of_z w64 c.in-Clock.moment) ≡ c.in-Clock.moment = search rules in
-    let came = c.in_ok-push-in-Clock.ensures.ok ∙ ap (λ (m : ℤ). c.self.inside.events ++ event.Clock m ∷ []) same in
-    let held = g.R.Registry.state c.args.stores.now in
-    asks_pushed _ c.args.self.now c.self.view_is c.push.new.self (event.Clock c.in-Clock.moment) held held came (unasked held)
