@@ -22,6 +22,9 @@ use Rattle.check_answers.proofs.Finds.{contains_in, in_contains}
 use Rattle.check_answers.specs.declared.stores.Stores.{Stores}
 use Rattle.check_answers.specs.declared.turn.Turn.{Turn}
 use Rattle.check_answers.specs.All.{HasTransactionNoDirtyReads}
+use Rattle.sdb_model.specs.Catalogs.{catalog_after}
+use Rattle.sdb_contents.specs.Commits.{executed_of}
+use Rattle.sdb_model.specs.Causes.{before}
 use Rattle.check_answers.specs.Rows.{all_keys, answer_is_of, had, had_at, rows_are_of, same_values, select_is_of, some_had, statement_is_of}
 use Rattle.check_answers.specs.Turns.{AreTurns, IsTurn}
 use Rattle.check_answers.proofs.HadLaws.{IsHad, Was, had_is, is_had}
@@ -61,11 +64,15 @@ module _ (catalog : List Table) (x : Stores) (events : List Event) (id : TxId) (
   abbrev all : List Executed
   all = statements_of events id
 
+  -- the tables with which a statement was accepted
+  abbrev then : Executed → List Table
+  then s = catalog_after catalog (before s events)
+
   abbrev Has : Executed → Key → Option (List Pair) → Type 0
   Has s key row = HasRow catalog (Was x events (client_of id)) events id s key row
 
   abbrev Had : Executed → Key → List Pair → Type 0
-  Had s key columns = IsHad catalog x events (client_of id) all s key columns
+  Had s key columns = IsHad (then s) x events (client_of id) all s key columns
 
   has_of : (s : Executed) (key : Key) (columns : List Pair) → Had s key columns → Has s key (Some columns)
   has_of s key columns h = record {
@@ -99,37 +106,37 @@ module _ (catalog : List Table) (x : Stores) (events : List Event) (id : TxId) (
     made = h.made;
   }
 
-  abbrev keys : List Key
-  keys = all_keys catalog x ts
+  abbrev keys : Executed → List Key
+  keys s = all_keys (then s) x ts
 
   abbrev images : Executed → List Image
-  images s = had catalog x s keys ts
+  images s = had (then s) x s (keys s) ts
 
   image_is : (s : Executed) (i : Image) → In (images s) i → Has s i.key (Some i.columns)
   image_is s i k =
-      let r = in_flat (λ key. had_at catalog x s key ts) keys i k in
-      let h = had_is catalog x events (client_of id) s r.0 all ts i turns r.2 in
+      let r = in_flat (λ key. had_at (then s) x s key ts) (keys s) i k in
+      let h = had_is (then s) x events (client_of id) s r.0 all ts i turns r.2 in
       subst (λ key. Has s key (Some i.columns)) (sym h.0) (has_of s r.0 i.columns h.1)
 
   is_image : (s : Executed) (i : Image) → Has s i.key (Some i.columns) → In (images s) i
   is_image s i h =
       let k = of_has s i.key i.columns h in
-      flat_in (λ key. had_at catalog x s key ts) keys i.key i (key_found catalog x events (client_of id) s i.key all ts i.columns turns k) (is_had catalog x events (client_of id) s i.key all ts i.columns turns k)
+      flat_in (λ key. had_at (then s) x s key ts) (keys s) i.key i (key_found (then s) x events (client_of id) s i.key all ts i.columns turns k) (is_had (then s) x events (client_of id) s i.key all ts i.columns turns k)
 
   abbrev Rows : Executed → List (List Value) → Type 0
   Rows s rows = RowsAreOf catalog (Was x events (client_of id)) events id s rows
 
   module _ (s : Executed) (t : Turn) (h : IsTurn events (client_of id) s t) (rows : List (List Value)) where
-    by_select : (select : Select) → t.statement ≡ Some (statement.Select select) → select_is_of catalog select rows (images s) ≡ true → Rows s rows
-    by_select select e g = by (find_table catalog select.table) refl g
+    by_select : (select : Select) → t.statement ≡ Some (statement.Select select) → select_is_of (then s) select rows (images s) ≡ true → Rows s rows
+    by_select select e g = by (find_table (then s) select.table) refl g
       where
-        by : (o : Option Table) → find_table catalog select.table ≡ o → option_map_or (λ (u : Table). rows_are_of u select.columns rows (images s)) o false ≡ true → Rows s rows
+        by : (o : Option Table) → find_table (then s) select.table ≡ o → option_map_or (λ (u : Table). rows_are_of u select.columns rows (images s)) o false ≡ true → Rows s rows
         by None f k = clash (sym k)
         by (Some u) f k =
             let r = rows_are u select.columns (images s) (λ i. Has s i.key (Some i.columns)) (image_is s) rows k in
             (u, select, r.0, (h.read (statement.Select select)).1 e, f, r.1, r.2)
 
-    rows_by : (o : Option Statement) → t.statement ≡ o → statement_is_of catalog o rows (images s) ≡ true → Rows s rows
+    rows_by : (o : Option Statement) → t.statement ≡ o → statement_is_of (then s) o rows (images s) ≡ true → Rows s rows
     rows_by None e g = clash (sym g)
     rows_by (Some (statement.Select select)) e g = by_select select e g
     rows_by (Some (statement.Insert i)) e g = clash (sym g)
@@ -141,22 +148,22 @@ module _ (catalog : List Table) (x : Stores) (events : List Event) (id : TxId) (
     rows_by (Some statement.Rollback) e g = clash (sym g)
     rows_by (Some statement.Vacuum) e g = clash (sym g)
 
-    by_rows : Rows s rows → statement_is_of catalog t.statement rows (images s) ≡ true
+    by_rows : Rows s rows → statement_is_of (then s) t.statement rows (images s) ≡ true
     by_rows (u, select, some, reads, f, e, each) =
-        ap (λ o. statement_is_of catalog o rows (images s)) ((h.read (statement.Select select)).0 reads)
+        ap (λ o. statement_is_of (then s) o rows (images s)) ((h.read (statement.Select select)).0 reads)
         ∙ ap (λ (o : Option Table). option_map_or (λ (v : Table). rows_are_of v select.columns rows (images s)) o false) f
         ∙ ap (λ z. rows_are_of u select.columns z (images s)) e
         ∙ are_rows u select.columns (images s) some (all_each (λ i. Has s i.key (Some i.columns)) (In (images s)) some (is_image s) each)
 
-  key_by : (s : Executed) (key : Key) → some_had (had_at catalog x s key ts) ≡ true → KeyHasRow catalog (Was x events (client_of id)) events id s key
-  key_by s key g = by (had_at catalog x s key ts) refl g
+  key_by : (s : Executed) (key : Key) → some_had (had_at (then s) x s key ts) ≡ true → KeyHasRow catalog (Was x events (client_of id)) events id s key
+  key_by s key g = by (had_at (then s) x s key ts) refl g
     where
-      by : (is : List Image) → had_at catalog x s key ts ≡ is → some_had is ≡ true → KeyHasRow catalog (Was x events (client_of id)) events id s key
+      by : (is : List Image) → had_at (then s) x s key ts ≡ is → some_had is ≡ true → KeyHasRow catalog (Was x events (client_of id)) events id s key
       by [] e k = clash (sym k)
-      by (i ∷ is) e k = (i.columns, has_of s key i.columns (had_is catalog x events (client_of id) s key all ts i turns (subst (λ z. In z i) (sym e) (inl refl))).1)
+      by (i ∷ is) e k = (i.columns, has_of s key i.columns (had_is (then s) x events (client_of id) s key all ts i turns (subst (λ z. In z i) (sym e) (inl refl))).1)
 
-  by_key : (s : Executed) (key : Key) → KeyHasRow catalog (Was x events (client_of id)) events id s key → some_had (had_at catalog x s key ts) ≡ true
-  by_key s key (columns, h) = by (had_at catalog x s key ts) (is_had catalog x events (client_of id) s key all ts columns turns (of_has s key columns h))
+  by_key : (s : Executed) (key : Key) → KeyHasRow catalog (Was x events (client_of id)) events id s key → some_had (had_at (then s) x s key ts) ≡ true
+  by_key s key (columns, h) = by (had_at (then s) x s key ts) (is_had (then s) x events (client_of id) s key all ts columns turns (of_has s key columns h))
     where
       by : (is : List Image) → In is (record { key = key; columns = columns }) → some_had is ≡ true
       by [] k = absurd k
@@ -168,13 +175,13 @@ module _ (catalog : List Table) (x : Stores) (events : List Event) (id : TxId) (
   Own s a = AnswersAreOf catalog (Was x events (client_of id)) events id s a
 
   abbrev test : Turn → Bool
-  test t = answer_is_of catalog x keys ts t t.executed.answer
+  test t = answer_is_of (then (executed_of t.executed)) x (keys (executed_of t.executed)) ts t t.executed.answer
 
   -- where the statement is that of the turn
-  at_turn : (s : Executed) (t : Turn) (a : Answer) → IsTurn events (client_of id) s t → s.answer ≡ Some a → test t ≡ true → answer_is_of catalog x keys ts t (Some a) ≡ true
-  at_turn s t a h e g = ap (answer_is_of catalog x keys ts t) (sym (ap (λ (z : Executed). z.answer) h.executed ∙ e)) ∙ g
+  at_turn : (s : Executed) (t : Turn) (a : Answer) → IsTurn events (client_of id) s t → s.answer ≡ Some a → test t ≡ true → answer_is_of (then (executed_of t.executed)) x (keys (executed_of t.executed)) ts t (Some a) ≡ true
+  at_turn s t a h e g = ap (answer_is_of (then (executed_of t.executed)) x (keys (executed_of t.executed)) ts t) (sym (ap (λ (z : Executed). z.answer) h.executed ∙ e)) ∙ g
 
-  turn_own : (s : Executed) (a : Answer) → list_all test ts ≡ true → Contains (statements_of events id) s → s.answer ≡ Some a → (t : Turn) × IsTurn events (client_of id) s t × (answer_is_of catalog x keys ts t (Some a) ≡ true)
+  turn_own : (s : Executed) (a : Answer) → list_all test ts ≡ true → Contains (statements_of events id) s → s.answer ≡ Some a → (t : Turn) × IsTurn events (client_of id) s t × (answer_is_of (then (executed_of t.executed)) x (keys (executed_of t.executed)) ts t (Some a) ≡ true)
   turn_own s a g k e =
       let t = turn_found events (client_of id) all ts s turns (contains_in (statements_of events id) s k) in
       (t.0, t.2, at_turn s t.0 a t.2 e (each_in test ts g t.0 t.1))
@@ -182,10 +189,10 @@ module _ (catalog : List Table) (x : Stores) (events : List Event) (id : TxId) (
   own_is : (s : Executed) (a : Answer) → list_all test ts ≡ true → Contains (statements_of events id) s → s.answer ≡ Some a → Own s a
   own_is s (answer.Rows rows) g k e =
       let t = turn_own s (answer.Rows rows) g k e in
-      rows_by s t.0 t.1 rows t.0.statement refl (subst (λ z. statement_is_of catalog t.0.statement rows (images z) ≡ true) t.1.executed t.2)
+      rows_by s t.0 t.1 rows t.0.statement refl (subst (λ z. statement_is_of (then z) t.0.statement rows (images z) ≡ true) t.1.executed t.2)
   own_is s (answer.Duplicate key) g k e =
       let t = turn_own s (answer.Duplicate key) g k e in
-      key_by s key (subst (λ z. some_had (had_at catalog x z key ts) ≡ true) t.1.executed t.2)
+      key_by s key (subst (λ z. some_had (had_at (then z) x z key ts) ≡ true) t.1.executed t.2)
   own_is s (answer.Count n) g k e = tt
   own_is s answer.Done g k e = tt
   own_is s answer.Committed g k e = tt
@@ -200,10 +207,10 @@ module _ (catalog : List Table) (x : Stores) (events : List Event) (id : TxId) (
   own_is s answer.OpenTransactions g k e = tt
   own_is s answer.NoMemory g k e = tt
 
-  own_test : (s : Executed) (t : Turn) (o : Option Answer) → IsTurn events (client_of id) s t → ((a : Answer) → o ≡ Some a → Own s a) → answer_is_of catalog x keys ts t o ≡ true
+  own_test : (s : Executed) (t : Turn) (o : Option Answer) → IsTurn events (client_of id) s t → ((a : Answer) → o ≡ Some a → Own s a) → answer_is_of (then (executed_of t.executed)) x (keys (executed_of t.executed)) ts t o ≡ true
   own_test s t None h own = refl
-  own_test s t (Some (answer.Rows rows)) h own = subst (λ z. statement_is_of catalog t.statement rows (images z) ≡ true) (sym h.executed) (by_rows s t h rows (own (answer.Rows rows) refl))
-  own_test s t (Some (answer.Duplicate key)) h own = subst (λ z. some_had (had_at catalog x z key ts) ≡ true) (sym h.executed) (by_key s key (own (answer.Duplicate key) refl))
+  own_test s t (Some (answer.Rows rows)) h own = subst (λ z. statement_is_of (then z) t.statement rows (images z) ≡ true) (sym h.executed) (by_rows s t h rows (own (answer.Rows rows) refl))
+  own_test s t (Some (answer.Duplicate key)) h own = subst (λ z. some_had (had_at (then z) x z key ts) ≡ true) (sym h.executed) (by_key s key (own (answer.Duplicate key) refl))
   own_test s t (Some (answer.Count n)) h own = refl
   own_test s t (Some answer.Done) h own = refl
   own_test s t (Some answer.Committed) h own = refl

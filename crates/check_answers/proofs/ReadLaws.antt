@@ -8,7 +8,8 @@ use Rattle.check_answers.specs.Types.{Event, Insert, Key, Made, Statement, Table
 use Rattle.sdb_model.specs.Exec.{find_table, key_of}
 use Rattle.sdb_model.specs.declared.statement.Statement.TheVariants as statement
 use Rattle.sdb_model.specs.Sql.{Reads}
-use Rattle.sdb_model.specs.Causes.{IsCounted, before, is_open, is_select, removes}
+use Rattle.sdb_model.specs.Causes.{IsCounted, before, is_select, removes}
+use Rattle.sdb_model.specs.Follows.{is_open}
 use Rattle.sdb_model.specs.Transactions.{Executed}
 use Rattle.sdb_model.specs.Calls.{calls_of}
 use Rattle.check_tables.specs.Values.{all_made, made_of}

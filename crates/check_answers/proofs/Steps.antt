@@ -7,16 +7,17 @@ use Rattle.check_answers.specs.Types.{Answer, ClientSlot, Event, Gate, How, Repl
 use Rattle.sdb_types.specs.declared.record.Reply.TheVariants as reply
 use Rattle.sdb_types.specs.Contents.{CanAnswer}
 use Rattle.sdb_model.specs.declared.event.How.TheVariants.{Seen, Delayed}
+use Rattle.sdb_model.specs.Catalogs.{catalog_after}
 use Rattle.sdb_model.specs.Follows.{texts_of}
 use Rattle.sdb_client.specs.Client.{ClientAt, IsIdle, ReplyPost, client_pending, next_id, TextStep}
 use Rattle.sdb_client.proofs.Public.{step_of_reply, step_of_text}
 use Rattle.sdb_client.specs.Execution.{CallStep, IsGateAt, State, TakeStep, client_after, flights_after, with_client_at, with_flights}
 use Rattle.sdb_model.specs.Calls.{is_stored_reply}
 
-pub took : (script : Script) (s : State) (c at : ℕ) (client_slot : ClientSlot) (gate : Gate) (text : List ℕ) (answer : Option Answer) (client : ClientAt)
+pub took : (script : Script) (past : List Event) (s : State) (c at : ℕ) (client_slot : ClientSlot) (gate : Gate) (text : List ℕ) (answer : Option Answer) (client : ClientAt)
     → c ≡ suc at → at < length s.client_slots → IfSome (slice_get s.client_slots at) (λ x. x.stopped ≡ false) → client_slot ≡ get_or s.client_slots at client_slot → IsIdle client_slot.client → slice_get (texts_of script.clients (suc at)) client_slot.accepted ≡ Some text → IsGateAt gate s.client_slots at → client.begun < 2 ^ 64
-    → TextStep (record { catalog = script.catalog; now = s.clock; gate = gate; fresh = next_id client_slot.client }) text client_slot.client answer client → TakeStep script s c text answer (with_client_at s at (client_after client_slot 1 client))
-took script s c at client_slot gate text answer client number low goes read idle next gated small takes = record {
+    → TextStep (record { catalog = catalog_after script.catalog past; now = s.clock; gate = gate; fresh = next_id client_slot.client }) text client_slot.client answer client → TakeStep script past s c text answer (with_client_at s at (client_after client_slot 1 client))
+took script past s c at client_slot gate text answer client number low goes read idle next gated small takes = record {
   place = at;
   client_slot = client_slot;
   gate = gate;
@@ -28,7 +29,7 @@ took script s c at client_slot gate text answer client number low goes read idle
   next = subst (λ n. slice_get (texts_of script.clients n) client_slot.accepted ≡ Some text) (sym number) next;
   gated = gated;
   small = small;
-  takes = step_of_text (record { catalog = script.catalog; now = s.clock; gate = gate; fresh = next_id client_slot.client }) text client_slot.client answer client takes;
+  takes = step_of_text (record { catalog = catalog_after script.catalog past; now = s.clock; gate = gate; fresh = next_id client_slot.client }) text client_slot.client answer client takes;
   left = refl;
 }
   where

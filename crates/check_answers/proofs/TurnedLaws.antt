@@ -9,10 +9,11 @@ use Rattle.sdb_model.specs.declared.event.Event.TheVariants as event
 use Rattle.sdb_model.specs.declared.statement.Statement.TheVariants as statement
 use Rattle.sdb_model.specs.Sql.{Reads, Refuses, reads_vacuum}
 use Rattle.sdb_model.specs.Exec.{table_of}
+use Rattle.sdb_model.specs.Catalogs.{catalog_after}
 use Rattle.sdb_model.specs.Refused.{refusal_of}
-use Rattle.sdb_model.specs.Follows.{has_stopped}
+use Rattle.sdb_model.specs.Follows.{has_stopped, is_open, is_open_after, runs_vacuum}
 use Rattle.sdb_model.specs.Transactions.{Executed, statements_by, statements_after}
-use Rattle.sdb_model.specs.Causes.{IsRejected, NeedsTransaction, is_open, is_open_after, refused, runs_vacuum}
+use Rattle.sdb_model.specs.Causes.{IsRejected, NeedsTransaction, refused}
 use Rattle.check_protocol.proofs.Public.{any_some, In, none_some, not_true, number_is, right, some_any, true_not}
 use Rattle.check_tables.specs.declared.open.Work.TheVariants as work
 use Rattle.check_tables.specs.Values.{is_client_doing, is_doing, someone_does, taker}
@@ -36,6 +37,7 @@ untaken client n (event.Stop c) h = refl
 untaken client n (event.Clock moment) h = refl
 untaken client n (event.Idle c) h = refl
 untaken client n (event.Land number store q how r) h = refl
+untaken client n (event.Alter table column kind altered) h = refl
 
 none_said : (client : ℕ) (n : ℕ) (events : List Event) → list_any (takes client) events ≡ false → fold (statements_after client) [] (enumerate_from n events) ≡ []
 none_said client n [] h = refl
@@ -96,6 +98,10 @@ is_someone w past client stopped does =
 ---- statements that are read
 
 module _ (catalog : List Table) (past : List Event) (client : ℕ) where
+  -- the tables with which it is accepted
+  abbrev now : List Table
+  now = catalog_after catalog past
+
   inside_by : (st : Statement) → NeedsTransaction st → turned_by catalog past client st ≡ inside_turned catalog past client st
   inside_by statement.Begin n = absurd (n.0 refl)
   inside_by statement.Vacuum n = absurd (n.1 refl)
@@ -108,21 +114,21 @@ module _ (catalog : List Table) (past : List Event) (client : ℕ) where
   inside_by (statement.Select s) n = refl
 
   outside : (st : Statement) (a : Answer) → NeedsTransaction st → is_open past client ≡ false → a ≡ refused 5 → turned_by catalog past client st ≡ Some a
-  outside st a n o e = inside_by st n ∙ ap (λ b. if b then option_map answer.Refused (refusal_met catalog st) else Some (refused 5)) o ∙ ap Some (sym e)
+  outside st a n o e = inside_by st n ∙ ap (λ b. if b then option_map answer.Refused (refusal_met now st) else Some (refused 5)) o ∙ ap Some (sym e)
 
-  unfit : (st : Statement) (r : Refusal) (a : Answer) → is_open past client ≡ true → is_some (table_of st) ≡ true → refusal_of catalog st ≡ Some r → a ≡ answer.Refused r → turned_by catalog past client st ≡ Some a
+  unfit : (st : Statement) (r : Refusal) (a : Answer) → is_open past client ≡ true → is_some (table_of st) ≡ true → refusal_of now st ≡ Some r → a ≡ answer.Refused r → turned_by catalog past client st ≡ Some a
   unfit statement.Begin r a o t f e = clash (sym t)
   unfit statement.Vacuum r a o t f e = clash (sym t)
   unfit statement.Commit r a o t f e = clash (sym t)
   unfit statement.Rollback r a o t f e = clash (sym t)
   unfit (statement.Insert i) r a o t f e = by (statement.Insert i) o f e
     where
-      by : (st : Statement) → is_open past client ≡ true → refusal_of catalog st ≡ Some r → a ≡ answer.Refused r → (if is_open past client then option_map answer.Refused (refusal_of catalog st) else Some (refused 5)) ≡ Some a
-      by st o f e = ap (λ b. if b then option_map answer.Refused (refusal_of catalog st) else Some (refused 5)) o ∙ ap (option_map answer.Refused) f ∙ ap Some (sym e)
-  unfit (statement.Upsert i) r a o t f e = ap (λ b. if b then option_map answer.Refused (refusal_of catalog (statement.Upsert i)) else Some (refused 5)) o ∙ ap (option_map answer.Refused) f ∙ ap Some (sym e)
-  unfit (statement.Update u) r a o t f e = ap (λ b. if b then option_map answer.Refused (refusal_of catalog (statement.Update u)) else Some (refused 5)) o ∙ ap (option_map answer.Refused) f ∙ ap Some (sym e)
-  unfit (statement.Delete d) r a o t f e = ap (λ b. if b then option_map answer.Refused (refusal_of catalog (statement.Delete d)) else Some (refused 5)) o ∙ ap (option_map answer.Refused) f ∙ ap Some (sym e)
-  unfit (statement.Select s) r a o t f e = ap (λ b. if b then option_map answer.Refused (refusal_of catalog (statement.Select s)) else Some (refused 5)) o ∙ ap (option_map answer.Refused) f ∙ ap Some (sym e)
+      by : (st : Statement) → is_open past client ≡ true → refusal_of now st ≡ Some r → a ≡ answer.Refused r → (if is_open past client then option_map answer.Refused (refusal_of now st) else Some (refused 5)) ≡ Some a
+      by st o f e = ap (λ b. if b then option_map answer.Refused (refusal_of now st) else Some (refused 5)) o ∙ ap (option_map answer.Refused) f ∙ ap Some (sym e)
+  unfit (statement.Upsert i) r a o t f e = ap (λ b. if b then option_map answer.Refused (refusal_of now (statement.Upsert i)) else Some (refused 5)) o ∙ ap (option_map answer.Refused) f ∙ ap Some (sym e)
+  unfit (statement.Update u) r a o t f e = ap (λ b. if b then option_map answer.Refused (refusal_of now (statement.Update u)) else Some (refused 5)) o ∙ ap (option_map answer.Refused) f ∙ ap Some (sym e)
+  unfit (statement.Delete d) r a o t f e = ap (λ b. if b then option_map answer.Refused (refusal_of now (statement.Delete d)) else Some (refused 5)) o ∙ ap (option_map answer.Refused) f ∙ ap Some (sym e)
+  unfit (statement.Select s) r a o t f e = ap (λ b. if b then option_map answer.Refused (refusal_of now (statement.Select s)) else Some (refused 5)) o ∙ ap (option_map answer.Refused) f ∙ ap Some (sym e)
 
   pub turned_of : (text : List ℕ) (st : Statement) (a : Answer) → ((x y : Statement) → Reads text x → Reads text y → x ≡ y) → ((x : Statement) (r : Refusal) → Reads text x → Refuses text r → ⊥) → Reads text st → IsRejected catalog past client text a → turned_by catalog past client st ≡ Some a
   turned_of text st a one either reads (inl (r, f, e)) = absurd (either st r reads f)
@@ -149,7 +155,7 @@ module _ (catalog : List Table) (past : List Event) (client : ℕ) where
   by_word text st a true o n reads h = none_some h
   by_word text st a false o n reads h = inr (inr (inl (st, reads, n, o, sym (some_is (refused 5) a h))))
 
-  by_table : (text : List ℕ) (st : Statement) (a : Answer) (b : Bool) (r : Option Refusal) → is_open past client ≡ b → refusal_of catalog st ≡ r → NeedsTransaction st → is_some (table_of st) ≡ true → Reads text st → (if b then option_map answer.Refused r else Some (refused 5)) ≡ Some a → IsRejected catalog past client text a
+  by_table : (text : List ℕ) (st : Statement) (a : Answer) (b : Bool) (r : Option Refusal) → is_open past client ≡ b → refusal_of now st ≡ r → NeedsTransaction st → is_some (table_of st) ≡ true → Reads text st → (if b then option_map answer.Refused r else Some (refused 5)) ≡ Some a → IsRejected catalog past client text a
   by_table text st a true None o f n t reads h = none_some h
   by_table text st a true (Some r) o f n t reads h = inr (inr (inr (inl (st, r, reads, o, t, f, sym (some_is (answer.Refused r) a h)))))
   by_table text st a false r o f n t reads h = inr (inr (inl (st, reads, n, o, sym (some_is (refused 5) a h))))
@@ -159,11 +165,11 @@ module _ (catalog : List Table) (past : List Event) (client : ℕ) where
   is_turned text statement.Vacuum a reads h = by_vacuum text a (someone_does work.Transaction past) refl reads h
   is_turned text statement.Commit a reads h = by_word text statement.Commit a (is_open past client) refl (λ e. cc, λ e. cc) reads h
   is_turned text statement.Rollback a reads h = by_word text statement.Rollback a (is_open past client) refl (λ e. cc, λ e. cc) reads h
-  is_turned text (statement.Insert i) a reads h = by_table text (statement.Insert i) a (is_open past client) (refusal_of catalog (statement.Insert i)) refl refl (λ e. cc, λ e. cc) refl reads h
-  is_turned text (statement.Upsert i) a reads h = by_table text (statement.Upsert i) a (is_open past client) (refusal_of catalog (statement.Upsert i)) refl refl (λ e. cc, λ e. cc) refl reads h
-  is_turned text (statement.Update u) a reads h = by_table text (statement.Update u) a (is_open past client) (refusal_of catalog (statement.Update u)) refl refl (λ e. cc, λ e. cc) refl reads h
-  is_turned text (statement.Delete d) a reads h = by_table text (statement.Delete d) a (is_open past client) (refusal_of catalog (statement.Delete d)) refl refl (λ e. cc, λ e. cc) refl reads h
-  is_turned text (statement.Select s) a reads h = by_table text (statement.Select s) a (is_open past client) (refusal_of catalog (statement.Select s)) refl refl (λ e. cc, λ e. cc) refl reads h
+  is_turned text (statement.Insert i) a reads h = by_table text (statement.Insert i) a (is_open past client) (refusal_of now (statement.Insert i)) refl refl (λ e. cc, λ e. cc) refl reads h
+  is_turned text (statement.Upsert i) a reads h = by_table text (statement.Upsert i) a (is_open past client) (refusal_of now (statement.Upsert i)) refl refl (λ e. cc, λ e. cc) refl reads h
+  is_turned text (statement.Update u) a reads h = by_table text (statement.Update u) a (is_open past client) (refusal_of now (statement.Update u)) refl refl (λ e. cc, λ e. cc) refl reads h
+  is_turned text (statement.Delete d) a reads h = by_table text (statement.Delete d) a (is_open past client) (refusal_of now (statement.Delete d)) refl refl (λ e. cc, λ e. cc) refl reads h
+  is_turned text (statement.Select s) a reads h = by_table text (statement.Select s) a (is_open past client) (refusal_of now (statement.Select s)) refl refl (λ e. cc, λ e. cc) refl reads h
 
   pub unread_is : (text : List ℕ) (r : Refusal) (a : Answer) → ((x y : Refusal) → Refuses text x → Refuses text y → x ≡ y) → ((x : Statement) (y : Refusal) → Reads text x → Refuses text y → ⊥) → Refuses text r → IsRejected catalog past client text a → Some (answer.Refused r) ≡ Some a
   unread_is text r a one either f (inl (x, g, e)) = ap Some (ap answer.Refused (one r x f g) ∙ sym e)

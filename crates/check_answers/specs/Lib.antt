@@ -3,6 +3,7 @@ pub mod Tests
 pub mod Values
 pub mod Turns
 pub mod Rows
+pub mod Steps
 pub mod All
 pub mod Counts
 pub mod OfClients

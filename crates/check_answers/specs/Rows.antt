@@ -4,10 +4,12 @@ use Rattle.std.specs.Cmp.Lexicographic.{slice_cmp}
 use Rattle.std.specs.List.{cons_option, flat_map, list_all, list_any}
 use Rattle.std.specs.Option.{option_map, option_map_or}
 use Rattle.std.specs.Ordering.{is_eq}
-use Rattle.check_answers.specs.Types.{Answer, Image, Insert, Key, Pair, Request, Select, Statement, Table, Value}
+use Rattle.check_answers.specs.Types.{Answer, Event, Image, Insert, Key, Pair, Request, Select, Statement, Table, Value}
 use Rattle.sdb_types.specs.declared.record.Request.TheVariants as ask
 use Rattle.sdb_types.specs.Contents.{in_span}
 use Rattle.sdb_types.specs.Order.{value_cmp, same_key}
+use Rattle.sdb_model.specs.Catalogs.{catalog_after}
+use Rattle.sdb_model.specs.Causes.{before}
 use Rattle.sdb_model.specs.declared.answer.Answer.TheVariants as answer
 use Rattle.sdb_model.specs.declared.statement.Statement.TheVariants as statement
 use Rattle.sdb_model.specs.Exec.{all_rows, find_table, key_of, projected}
@@ -101,3 +103,11 @@ abbrev pub answer_is_of : List Table → Stores → List Key → List Turn → T
 answer_is_of catalog x keys ts t (Some (answer.Rows rows)) = statement_is_of catalog t.statement rows (had catalog x (executed_of t.executed) keys ts)
 answer_is_of catalog x keys ts t (Some (answer.Duplicate key)) = some_had (had_at catalog x (executed_of t.executed) key ts)
 answer_is_of catalog x keys ts t _ = true
+
+-- the answer of a turn shows rows that its transaction has, under these tables
+abbrev pub turn_is_under : List Table → Stores → List Turn → Turn → Bool
+turn_is_under catalog x ts t = answer_is_of catalog x (all_keys catalog x ts) ts t t.executed.answer
+
+-- and under the tables with which its statement was accepted
+abbrev pub turn_is_of : List Table → List Event → Stores → List Turn → Turn → Bool
+turn_is_of catalog events x ts t = turn_is_under (catalog_after catalog (before (executed_of t.executed) events)) x ts t

@@ -24,10 +24,12 @@ use Rattle.sdb_model.specs.Reads.{access_of}
 use Rattle.sdb_model.specs.Refused.{refusal_of}
 use Rattle.sdb_model.specs.Rows.{same_name}
 use Rattle.sdb_model.specs.Transactions.{Executed, client_of, commit_of, id_of, is_effective, ordinal_of, statements_by, statements_of}
+use Rattle.sdb_model.specs.Catalogs.{catalog_after}
 use Rattle.sdb_model.specs.Calls as calls
 use Rattle.sdb_model.specs.Calls.{clock_at, calls_of, decision_learned, is_read, put_by, records_read, records_observed}
 use Rattle.sdb_model.specs.ReadSet.{ReadItem, KeyRead, SpanRead, read_set_of, reads_rows, version_read, meaning_of, has_read}
-use Rattle.sdb_model.specs.Causes.{IsCaused, IsCounted, IsRejected, before, is_misfit, is_open, is_select, prepares_key, records_found, refused, removes, counted_by}
+use Rattle.sdb_model.specs.Causes.{IsCaused, IsCounted, IsRejected, before, is_misfit, is_select, prepares_key, records_found, refused, removes, counted_by}
+use Rattle.sdb_model.specs.Follows.{is_open}
 use Rattle.check_protocol.specs.Values.{same_record}
 use Rattle.check_answers.specs.declared.sign.Sign.{Sign}
 use Rattle.check_answers.specs.declared.sign.Sign.TheVariants as sign
@@ -357,7 +359,7 @@ abbrev pub vacuum_turned : List Event → Option Answer
 vacuum_turned past = if someone_does work.Transaction past then Some answer.OpenTransactions else None
 
 abbrev pub inside_turned : List Table → List Event → ℕ → Statement → Option Answer
-inside_turned catalog past client st = if is_open past client then option_map answer.Refused (refusal_met catalog st) else Some (refused 5)
+inside_turned catalog past client st = if is_open past client then option_map answer.Refused (refusal_met (catalog_after catalog past) st) else Some (refused 5)
 
 -- what a statement that a client takes after some events is turned away with
 abbrev pub turned_by : List Table → List Event → ℕ → Statement → Option Answer

@@ -12,7 +12,6 @@ ghost use Rattle.check_answers.specs.Values.{all_moments, all_contents};
 
 use crate::answer::answers_have_rows;
 use crate::counts::is_executed_counted;
-use crate::keys::keys_of;
 use crate::rolls::is_executed_resolved;
 use crate::stores::Stores;
 use crate::turn::turns_of;
@@ -78,8 +77,7 @@ fn is_transaction_observed(
 {
     let turns = turns_of(alloc, events, id)?;
     let all = turns.as_slice();
-    let keys = keys_of(alloc, catalog, stores, all)?;
-    answers_have_rows(alloc, catalog, stores, keys.as_slice(), all, all)
+    answers_have_rows(alloc, catalog, events, stores, all, all)
 }
 
 // Whether it holds of a client's first transactions.

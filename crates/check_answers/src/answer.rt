@@ -3,14 +3,17 @@ ghost use Rattle.std.specs.Prelude.{◌≡◌, IfOk, map};
 ghost use Rattle.std.specs.List.{list_all, list_any};
 ghost use Rattle.sdb_model.specs.Rows.{value_of};
 ghost use Rattle.sdb_contents.specs.Commits.{executed_of};
-ghost use Rattle.check_answers.specs.Rows.{answer_is_of as answer_is_of_lem, had_at, same_values, select_is_of as select_is_of_lem, some_had as some_had_lem, statement_is_of as statement_is_of_lem};
+ghost use Rattle.check_answers.specs.Rows.{had_at, same_values, select_is_of as select_is_of_lem, some_had as some_had_lem, statement_is_of as statement_is_of_lem, turn_is_of, turn_is_under};
 
 use crate::had::{add_had, images_had};
+use crate::keys::keys_of;
+use crate::plain::before;
 use crate::stores::Stores;
 use crate::turn::Turn;
+use check_tables::catalog_after;
 use sdb_contents::Executed;
 use sdb_exec::{observed, projected_names};
-use sdb_model::{Answer, Select, Statement};
+use sdb_model::{Answer, Event, Select, Statement};
 use sdb_record::{Image, Images};
 use sdb_schema::{Catalog, Table};
 use sdb_types::{Key, Name, NoMemory, Values};
@@ -111,18 +114,20 @@ fn some_had(
     Ok(images.first().is_some())
 }
 
+// Whether the answer of a turn shows rows that its transaction has, under these tables.
 fn is_answer_of(
     alloc: Global,
     catalog: &Catalog,
     stores: &Stores,
-    keys: &[Key],
     turns: &[Turn],
     turn: &Turn,
 ) -> Result<bool, NoMemory>
-    ensures { IfOk result (λ is. is ≡ answer_is_of_lem catalog.now stores.now keys.now turns.now turn.now turn.now.executed.answer) }
+    ensures { IfOk result (λ is. is ≡ turn_is_under catalog.now stores.now turns.now turn.now) }
 {
     match &turn.executed.answer {
         Some(Answer::Rows(rows)) => {
+            let keys = keys_of(alloc, catalog, stores, turns)?;
+            let keys = keys.as_slice();
             let images = images_had(alloc, catalog, stores, &turn.executed, keys, turns)?;
             let observed = rows.as_slice();
             is_statement_of(alloc, catalog, &turn.statement, observed, images.as_slice())
@@ -134,23 +139,38 @@ fn is_answer_of(
     }
 }
 
+// Whether it holds under the tables with which the statement was accepted.
+fn is_answer_of_then(
+    alloc: Global,
+    catalog: &Catalog,
+    events: &[Event],
+    stores: &Stores,
+    turns: &[Turn],
+    turn: &Turn,
+) -> Result<bool, NoMemory>
+    ensures { IfOk result (λ is. is ≡ turn_is_of catalog.now events.now stores.now turns.now turn.now) }
+{
+    let then = catalog_after(catalog, before(&turn.executed, events))?;
+    is_answer_of(alloc, &then, stores, turns, turn)
+}
+
 /// Whether it holds of each of these statements.
 pub fn answers_have_rows(
     alloc: Global,
     catalog: &Catalog,
+    events: &[Event],
     stores: &Stores,
-    keys: &[Key],
     turns: &[Turn],
     some: &[Turn],
 ) -> Result<bool, NoMemory>
-    ensures { IfOk result (λ are. are ≡ list_all (λ t. answer_is_of_lem catalog.now stores.now keys.now turns.now t t.executed.answer) some.now) }
+    ensures { IfOk result (λ are. are ≡ list_all (turn_is_of catalog.now events.now stores.now turns.now) some.now) }
 {
     let Some((first, rest)) = some.split_first() else {
         return Ok(true);
     };
-    let is = is_answer_of(alloc, catalog, stores, keys, turns, first)?;
+    let is = is_answer_of_then(alloc, catalog, events, stores, turns, first)?;
     if !is {
         return Ok(false);
     }
-    answers_have_rows(alloc, catalog, stores, keys, turns, rest)
+    answers_have_rows(alloc, catalog, events, stores, turns, rest)
 }

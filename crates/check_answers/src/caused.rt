@@ -2,10 +2,11 @@
 ghost use Rattle.std.specs.Prelude.{◌≡◌, ◌||◌, IfOk, IfSome, IsTrue, ◌↔◌};
 ghost use Rattle.std.specs.List.{AllByRecursion};
 ghost use Rattle.sdb_model.specs.declared.answer.Answer.TheVariants as answer;
+ghost use Rattle.sdb_model.specs.Catalogs.{catalog_after as catalog_after_lem};
 ghost use Rattle.sdb_model.specs.Causes.{AreCaused, IsCaused, IsRejected, MayPassMost, before as before_lem};
 ghost use Rattle.sdb_contents.specs.Commits.{all_executed, executed_of};
 ghost use Rattle.check_tables.specs.Values.{taker as taker_lem};
-ghost use Rattle.check_answers.specs.Tests.{answered_with, same_answer, AreTakersWell, IsAnswerCaused, IsClientWell, IsTurnedIfDue, IsWellAnswered};
+ghost use Rattle.check_answers.specs.Tests.{answered_with, same_answer, AreTakersWell, IsAnswerCaused, IsClientWell, IsOfDuplicate, IsTurnedIfDue, IsWellAnswered};
 ghost use Rattle.sdb_client.specs.Client.{is_out_of_memory};
 
 use crate::bad::is_bad_record;
@@ -16,11 +17,11 @@ use crate::full::may_pass_most;
 use crate::plain::{before, has_fault, is_of_count, is_of_done, is_of_duplicate, is_of_rows};
 use crate::same::is_same_answer;
 use crate::turned::turned_away;
-use check_tables::taker;
+use check_tables::{catalog_after, taker};
 use sdb_contents::{Executed, statements_by};
 use sdb_model::{Answer, Event, Refusal};
 use sdb_schema::Catalog;
-use sdb_types::NoMemory;
+use sdb_types::{Key, NoMemory};
 use std::alloc::Global;
 
 // Whether a statement is to be turned away with what it is answered.
@@ -81,6 +82,20 @@ fn is_refused(
     is_past_most(alloc, events, client, executed, refusal)
 }
 
+// The cause of Duplicate, under the tables with which the statement was accepted.
+fn is_of_duplicate_then(
+    alloc: Global,
+    catalog: &Catalog,
+    events: &[Event],
+    executed: &Executed,
+    key: &Key,
+) -> Result<bool, NoMemory>
+    ensures { IfOk result (λ is. IsTrue is ↔ IsOfDuplicate (catalog_after_lem catalog.now (before_lem (executed_of executed.now) events.now)) (executed_of executed.now) key.now) }
+{
+    let then = catalog_after(catalog, before(executed, events))?;
+    is_of_duplicate(alloc, &then, executed, key)
+}
+
 /// Whether an answer to a statement of a client has its cause.
 pub fn has_cause(
     alloc: Global,
@@ -97,7 +112,7 @@ pub fn has_cause(
         Answer::Count(count) => is_of_count(alloc, events, client, executed, *count),
         Answer::Done => is_of_done(alloc, executed),
         Answer::Committed => is_of_commit(alloc, events, client, executed),
-        Answer::Duplicate(key) => is_of_duplicate(alloc, catalog, executed, key),
+        Answer::Duplicate(key) => is_of_duplicate_then(alloc, catalog, events, executed, key),
         Answer::Busy(key, id, at) => is_busy(alloc, events, client, executed, key, *id, *at),
         Answer::Conflict(key, found) => is_conflict(alloc, events, client, executed, key, found),
         Answer::Expired(id) => is_expired(alloc, events, client, executed, *id),

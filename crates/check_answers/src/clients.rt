@@ -3,13 +3,16 @@ ghost use Rattle.std.specs.Prelude.{◌≡◌, ◌↔◌, ◌<◌, ◌-◌, ◌^
 ghost use Rattle.sdb_record.specs.Meta.{is_moment as is_moment_lem};
 ghost use Rattle.sdb_model.specs.Follows.{IsHowOfStep, texts_of};
 ghost use Rattle.sdb_client.specs.Client.{IsIdle, client_pending};
-ghost use Rattle.sdb_client.specs.Execution.{AreFresh, CallStep, IsStepFrom, LandStep, StopStep, TakeStep, flights_after, with_flights};
+ghost use Rattle.sdb_client.specs.Execution.{AlterStep, AreFresh, AreQuiet, CallStep, LandStep, SomeActive, StopStep, flights_after, with_flights};
+ghost use Rattle.check_answers.specs.Steps.{IsStepUnder, IsTakenUnder};
 
 use crate::is_answered_alike;
 use crate::replies::{can_answer, is_moment};
+use check_tables::{column_refusal, is_short_name};
 use sdb_client::{Client, ClientSlot, fresh_slots, gate_at, prove_order};
-use sdb_model::{Answer, Event, How, Script};
-use sdb_types::{Duplicate, NoMemory, Reply, Request, Txt, same};
+use sdb_model::{Altered, Answer, Event, How, Script};
+use sdb_schema::{Catalog, Kind};
+use sdb_types::{Duplicate, Name, NoMemory, Reply, Request, TableName, Txt, same};
 use std::alloc::Global;
 use std::marker::Model;
 
@@ -127,9 +130,16 @@ impl Clients {
         }
     }
 
-    // A client takes its next statement, which is answered so.
-    fn take(&mut self, script: &Script, client: u32, text: &Txt, answer: &Option<Answer>) -> bool
-        ensures { result ≡ true → TakeStep script.now self.old client text.now answer.now self.new }
+    // A client takes its next statement under a catalog, which is answered so.
+    fn take(
+        &mut self,
+        script: &Script,
+        catalog: &Catalog,
+        client: u32,
+        text: &Txt,
+        answer: &Option<Answer>,
+    ) -> bool
+        ensures { result ≡ true → IsTakenUnder script.now catalog.now self.old client text.now answer.now self.new }
     {
         let Some(at) = self.place(client) else {
             return false;
@@ -148,7 +158,7 @@ impl Clients {
         let fresh = client_slot.client.next_id();
         let answered = client_slot
             .client
-            .take(&script.catalog, text, gate, fresh, self.clock);
+            .take(catalog, text, gate, fresh, self.clock);
         let _begun = client_slot.client.begun();
         client_slot.accepted = accepted;
         is_answered_alike(&answered, answer)
@@ -247,12 +257,56 @@ impl Clients {
         is_moment(moment)
     }
 
-    /// Whether an event is a step of the clients. Where it isn't they are not used again.
-    pub fn step(&mut self, script: &Script, event: &Event) -> Result<bool, NoMemory>
-        ensures { IfOk result (λ so. so ≡ true → IsStepFrom script.now self.old event.now self.new) }
+    // Some client that hasn't stopped has a transaction open or runs VACUUM.
+    fn is_any_active(&self) -> bool
+        ensures active { result ≡ true → SomeActive self.now.client_slots }
+        ensures quiet { result ≡ false → AreQuiet self.now.client_slots }
+    {
+        let gate = gate_at(&self.client_slots, self.client_slots.len());
+        gate.vacuum_runs || gate.open_elsewhere
+    }
+
+    // What becomes of a column that is to be added to a table of a catalog.
+    fn alter(
+        &self,
+        catalog: &Catalog,
+        table: &TableName,
+        column: &Name,
+        kind: Kind,
+        altered: Altered,
+    ) -> Result<bool, NoMemory>
+        ensures { IfOk result (λ so. so ≡ true → AlterStep catalog.now self.now.client_slots table.now (record { name = column.now; kind = kind }) altered) }
+    {
+        if self.is_any_active() {
+            return Ok(matches!(altered, Altered::Open));
+        }
+        if !is_short_name(column) {
+            return Ok(false);
+        }
+        let refusal = column_refusal(catalog, table, column, kind)?;
+        match altered {
+            Altered::Done => Ok(refusal.is_none()),
+            Altered::Refused(number) => Ok(refusal == Some(number)),
+            Altered::Open => Ok(false),
+        }
+    }
+
+    /// Whether an event is a step of the clients, under the catalog as it is after the events so far. Where it isn't they are not used again.
+    pub fn step(
+        &mut self,
+        script: &Script,
+        catalog: &Catalog,
+        event: &Event,
+    ) -> Result<bool, NoMemory>
+        ensures { IfOk result (λ so. so ≡ true → IsStepUnder script.now catalog.now self.old event.now self.new) }
     {
         match event {
-            Event::Take(client, text, answer) => Ok(self.take(script, *client, text, answer)),
+            Event::Take(client, text, answer) => {
+                Ok(self.take(script, catalog, *client, text, answer))
+            }
+            Event::Alter(table, column, kind, altered) => {
+                self.alter(catalog, table, column, *kind, *altered)
+            }
             Event::Call(client, _, request, how, reply, answer) => {
                 self.call(*client, request, *how, reply.copy()?, answer)
             }

@@ -3,8 +3,9 @@ ghost use Rattle.std.specs.Prelude.{◌≡◌, ◌<◌, ◌-◌, ◌^◌, true, 
 ghost use Rattle.sdb_client.specs.Execution.{IsExecution};
 
 use crate::clients::Clients;
+use check_tables::add_event;
 use sdb_model::{Event, Script};
-use sdb_types::NoMemory;
+use sdb_types::{Duplicate, NoMemory};
 use std::alloc::Global;
 
 // How many clients a script has; none where not each has a number.
@@ -28,10 +29,12 @@ pub fn is_execution(alloc: Global, script: &Script, events: &[Event]) -> Result<
         return Ok(false);
     };
     let mut clients = Clients::new(alloc, count)?;
+    let mut catalog = script.catalog.copy()?;
     for event in events {
-        if !clients.step(script, event)? {
+        if !clients.step(script, &catalog, event)? {
             return Ok(false);
         }
+        add_event(&mut catalog, event)?;
     }
     Ok(true)
 }

@@ -13,11 +13,12 @@ ghost use Rattle.check_tables.specs.Values.{all_made, made_of};
 ghost use Rattle.check_answers.specs.Tests.{any_upto, has_read_misfit as has_read_misfit_lem, misfit_of as misfit_of_lem, reads_at as reads_at_lem, reads_misfit as reads_misfit_lem};
 
 use crate::commit::is_in;
+use crate::plain::before;
 use crate::reading::statement_in;
 use check_protocol::is_same_key;
 use check_tables::{
-    Made, calls_of, client_of, from_begin, has_finished, id_of, meaning_of, ordinal_of, reads_rows,
-    rest_of,
+    Made, calls_of, catalog_after, client_of, from_begin, has_finished, id_of, meaning_of,
+    ordinal_of, reads_rows, rest_of,
 };
 use sdb_contents::{Executed, ends, statements_by};
 use sdb_model::{Event, Statement};
@@ -280,11 +281,12 @@ pub fn meets_misfit(
     ensures { IfOk result (λ meets. IsTrue meets ↔ MeetsMisfit catalog.now events.now client (executed_of executed.now) key.now) }
 {
     let statement = statement_in(alloc, &executed.text)?;
-    let reads = reads_at(alloc, catalog, key, &statement)?;
+    let then = catalog_after(catalog, before(executed, events))?;
+    let reads = reads_at(alloc, &then, key, &statement)?;
     if reads {
         let all = statements_by(alloc, client, events)?;
         let count = all.len() as u64;
-        return any_misfit_of(alloc, catalog, events, client, executed, key, count);
+        return any_misfit_of(alloc, &then, events, client, executed, key, count);
     }
     Ok(false)
 }

@@ -4,7 +4,7 @@ ghost use Rattle.sdb_model.specs.Causes.{refused as refused_lem};
 ghost use Rattle.check_answers.specs.Tests.{refusal_met, begin_turned as begin_turned_lem, vacuum_turned as vacuum_turned_lem, inside_turned as inside_turned_lem, turned_by as turned_by_lem, IsTurned};
 
 use crate::reading::{refusal_in, statement_in};
-use check_tables::{Work, is_open, someone_does};
+use check_tables::{Work, catalog_after, is_open, someone_does};
 use sdb_exec::{Plan, PlanRefused};
 use sdb_model::{Answer, Event, Refusal, Statement};
 use sdb_schema::Catalog;
@@ -70,7 +70,8 @@ fn inside_turned(
     if !is_open(alloc, past, client)? {
         return Ok(Some(refused(5)));
     }
-    match refusal_of(alloc, catalog, statement)? {
+    let now = catalog_after(catalog, past)?;
+    match refusal_of(alloc, &now, statement)? {
         Some(refusal) => Ok(Some(Answer::Refused(refusal))),
         None => Ok(None),
     }

@@ -134,6 +134,7 @@ prepare_is past plans (event.Stop client) t k w h = clash (sym h)
 prepare_is past plans (event.Clock moment) t k w h = clash (sym h)
 prepare_is past plans (event.Idle client) t k w h = clash (sym h)
 prepare_is past plans (event.Land number store asked how reply) t k w h = clash (sym h)
+prepare_is past plans (event.Alter table column kind altered) t k w h = clash (sym h)
 
 pub is_prepare : (past : List Labelled) (plans : List Plan) (e : Event) (t : ℕ) (k : Key) (w : Ack) (m : MayPrepare (plan_in plans) (all_labelled past) e t k (ack_of w)) → IsWrite m.write → prepares_well past plans e t k w ≡ true
 is_prepare past plans e t k w m sound =
@@ -252,6 +253,7 @@ check_is past plans (event.Stop client) t i h = clash (sym h)
 check_is past plans (event.Clock moment) t i h = clash (sym h)
 check_is past plans (event.Idle client) t i h = clash (sym h)
 check_is past plans (event.Land number store asked how reply) t i h = clash (sym h)
+check_is past plans (event.Alter table column kind altered) t i h = clash (sym h)
 
 pub is_check : (past : List Labelled) (plans : List Plan) (e : Event) (t i : ℕ) → MayCheck (plan_in plans) (all_labelled past) e t i → checks_well past plans e t i ≡ true
 is_check past plans e t i m =
@@ -418,6 +420,7 @@ decide_is past plans (event.Stop client) t w h = clash (sym h)
 decide_is past plans (event.Clock moment) t w h = clash (sym h)
 decide_is past plans (event.Idle client) t w h = clash (sym h)
 decide_is past plans (event.Land number store asked how reply) t w h = clash (sym h)
+decide_is past plans (event.Alter table column kind altered) t w h = clash (sym h)
 
 pub is_decide : (past : List Labelled) (plans : List Plan) (e : Event) (t : ℕ) (w : Ack) → MayDecide (plan_in plans) (all_labelled past) e t (ack_of w) → decides_well past plans e t w ≡ true
 is_decide past plans e t w m =
@@ -452,6 +455,7 @@ abort_is past (event.Stop client) t moment w h = clash (sym h)
 abort_is past (event.Clock now) t moment w h = clash (sym h)
 abort_is past (event.Idle client) t moment w h = clash (sym h)
 abort_is past (event.Land number store asked how reply) t moment w h = clash (sym h)
+abort_is past (event.Alter table column kind altered) t moment w h = clash (sym h)
 
 pub is_abort : (past : List Labelled) (e : Event) (t : ℕ) (moment : ℤ) (w : Ack) → MayAbort (all_labelled past) e t moment (ack_of w) → aborts_well e t moment w ≡ true
 is_abort past e t moment w m =

@@ -132,6 +132,7 @@ event_in (event.Stop client) found x i = inl i
 event_in (event.Clock moment) found x i = inl i
 event_in (event.Idle client) found x i = inl i
 event_in (event.Land number store q how r) found x i = inl i
+event_in (event.Alter table column kind altered) found x i = inl i
 
 event_keeps : (e : Event) (found : List Record) (x : Record) → In found x → In (with_event e found) x
 event_keeps (event.Call client store q how r answer) found x i = reply_keeps r found x i
@@ -140,6 +141,7 @@ event_keeps (event.Stop client) found x i = i
 event_keeps (event.Clock moment) found x i = i
 event_keeps (event.Idle client) found x i = i
 event_keeps (event.Land number store q how r) found x i = i
+event_keeps (event.Alter table column kind altered) found x i = i
 
 event_has : (e : Event) (found : List Record) (x : Record) → InEvent e x → In (with_event e found) x
 event_has (event.Call client store q how r answer) found x i = reply_has r found x i
@@ -148,6 +150,7 @@ event_has (event.Stop client) found x i = absurd i
 event_has (event.Clock moment) found x i = absurd i
 event_has (event.Idle client) found x i = absurd i
 event_has (event.Land number store q how r) found x i = absurd i
+event_has (event.Alter table column kind altered) found x i = absurd i
 
 gathered_in : (past : List Labelled) (found : List Record) (x : Record) → In (gathered past found) x → In found x ⊎ IsObserved (all_labelled past) x
 gathered_in [] found x i = inl i

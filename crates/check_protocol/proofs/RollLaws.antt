@@ -105,6 +105,7 @@ roll_forward_is past plans (event.Stop client) t k h = clash (sym h)
 roll_forward_is past plans (event.Clock moment) t k h = clash (sym h)
 roll_forward_is past plans (event.Idle client) t k h = clash (sym h)
 roll_forward_is past plans (event.Land number store asked how reply) t k h = clash (sym h)
+roll_forward_is past plans (event.Alter table column kind altered) t k h = clash (sym h)
 
 pub is_roll_forward : (past : List Labelled) (plans : List Plan) (e : Event) (t : ℕ) (k : Key) → Sound past plans t k → MayRollForward (plan_in plans) (all_labelled past) e t k → rolls_forward (observed past) past plans e t k ≡ true
 is_roll_forward past plans e t k sound m =
@@ -150,6 +151,7 @@ roll_back_is past plans (event.Stop client) t k h = clash (sym h)
 roll_back_is past plans (event.Clock moment) t k h = clash (sym h)
 roll_back_is past plans (event.Idle client) t k h = clash (sym h)
 roll_back_is past plans (event.Land number store asked how reply) t k h = clash (sym h)
+roll_back_is past plans (event.Alter table column kind altered) t k h = clash (sym h)
 
 is_undo : (past : List Labelled) (plans : List Plan) (t : ℕ) (k : Key) (s : State) (r : Record) (b : Option Record) → Sound past plans t k → is_committed s ≡ false → IsPreparedThere (plan_in plans) (all_labelled past) t k r → before_record r ≡ b
     → undoes (observed past) (own past plans t k) (undo (condition.Version (id t) s) k b) t k ≡ true
@@ -252,6 +254,7 @@ remove_is past plans (event.Stop client) k t h = clash (sym h)
 remove_is past plans (event.Clock moment) k t h = clash (sym h)
 remove_is past plans (event.Idle client) k t h = clash (sym h)
 remove_is past plans (event.Land number store asked how reply) k t h = clash (sym h)
+remove_is past plans (event.Alter table column kind altered) k t h = clash (sym h)
 
 pub is_remove : (past : List Labelled) (e : Event) (k : Key) (t : ℕ) → MayRemove (all_labelled past) e k t → removes_well (observed past) past e k t ≡ true
 is_remove past e k t m =

@@ -88,6 +88,7 @@ begin_is past (event.Stop client) t c h = clash (sym h)
 begin_is past (event.Clock moment) t c h = clash (sym h)
 begin_is past (event.Idle client) t c h = clash (sym h)
 begin_is past (event.Land number store asked how reply) t c h = clash (sym h)
+begin_is past (event.Alter table column kind altered) t c h = clash (sym h)
 
 pub is_begin : (past : List Labelled) (e : Event) (t c : ℕ) → MayBegin (all_labelled past) e t c → begins_well past e t c ≡ true
 is_begin past e t c m =
@@ -251,6 +252,7 @@ take_is past plans (event.Stop client) t h = clash (sym h)
 take_is past plans (event.Clock moment) t h = clash (sym h)
 take_is past plans (event.Idle client) t h = clash (sym h)
 take_is past plans (event.Land number store asked how reply) t h = clash (sym h)
+take_is past plans (event.Alter table column kind altered) t h = clash (sym h)
 
 pub is_take : (past : List Labelled) (plans : List Plan) (e : Event) (t : ℕ) → MayTake (plan_in plans) (all_labelled past) e t → starts_well (observed past) past plans e t ≡ true
 is_take past plans e t m =

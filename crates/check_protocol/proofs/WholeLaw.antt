@@ -35,6 +35,7 @@ stop_is (event.Call client store q how r answer) c h = clash (sym h)
 stop_is (event.Clock moment) c h = clash (sym h)
 stop_is (event.Idle client) c h = clash (sym h)
 stop_is (event.Land number store q how r) c h = clash (sym h)
+stop_is (event.Alter table column kind altered) c h = clash (sym h)
 
 enabled_is : (past : List Labelled) (plans : List Plan) (e : Event) (r : Action) → acts_well (observed past) past plans e r ≡ true → IsEnabled (plan_in plans) (all_labelled past) e (action_of r)
 enabled_is past plans e action.Other h = h

@@ -54,6 +54,7 @@ with_event (event.Stop client) found = found
 with_event (event.Clock moment) found = found
 with_event (event.Idle client) found = found
 with_event (event.Land number store q how r) found = found
+with_event (event.Alter table column kind altered) found = found
 
 abbrev pub gathered : List Labelled → List Record → List Record
 gathered [] found = found

@@ -290,7 +290,11 @@ may_deny rs whole past (Some t) = not (commit_started_in past t.0) || (is_known_
 abbrev pub answers_well : List Record → List Labelled → List Labelled → Labelled → Bool
 answers_well rs whole past p = (not (is_committed_answer (answer_of p.event)) || may_answer rs whole past p.ends) && (not (denies (answer_of p.event)) || may_deny rs whole past p.ends)
 
+-- an event occurs well after those before it, and its answer is one that may be given after the whole list
+abbrev pub follows_well : List Plan → List Labelled → List Labelled → Labelled → Bool
+follows_well plans whole past p = occurs_well (observed past) past plans p.event p.action && answers_well (observed whole) whole past p
+
 -- The whole list obeys the rules.
 abbrev pub obeys_rules : List Plan → List Labelled → Bool
 obeys_rules plans [] = true
-obeys_rules plans (p ∷ past) = obeys_rules plans past && (occurs_well (observed past) past plans p.event p.action && answers_well (observed (p ∷ past)) (p ∷ past) past p)
+obeys_rules plans (p ∷ past) = obeys_rules plans past && follows_well plans (p ∷ past) past p

@@ -1,9 +1,8 @@
 //! Whether a list of events is lawful, decided.
-ghost use Rattle.std.specs.Prelude.{◌≡◌, ◌&&◌, ◌↔◌, IsTrue, IfOk};
+ghost use Rattle.std.specs.Prelude.{◌≡◌, ◌↔◌, IsTrue, IfOk};
 ghost use Rattle.law_protocol.specs.Lawful.{IsLawful};
 ghost use Rattle.check_protocol.specs.Values.{plan_in, all_labelled};
-ghost use Rattle.check_protocol.specs.Rules.{acts_well, answers_well, obeys_rules, occurs_well};
-ghost use Rattle.check_protocol.specs.Observed.{observed as observed_lem};
+ghost use Rattle.check_protocol.specs.Rules.{acts_well, follows_well, obeys_rules, occurs_well};
 
 use crate::late::was_delayed;
 use crate::rolls::{answers_truly, may_remove, may_roll};
@@ -68,7 +67,7 @@ fn may_follow(
     past: &[Labelled],
     labelled: &Labelled,
 ) -> Result<bool, NoMemory>
-    ensures { IfOk result (λ well. well ≡ (occurs_well (observed_lem past.now) past.now plans.now labelled.now.event labelled.now.action && answers_well (observed_lem whole.now) whole.now past.now labelled.now)) }
+    ensures { IfOk result (λ well. well ≡ follows_well plans.now whole.now past.now labelled.now) }
 {
     let before = observed(alloc, past)?;
     if !may_occur(

@@ -333,6 +333,7 @@ fn answer_of(event: &Event) -> Option<&Answer>
         Event::Clock(_) => None,
         Event::Idle(_) => None,
         Event::Land(_, _, _, _, _) => None,
+        Event::Alter(_, _, _, _) => None,
     }
 }
 

@@ -459,6 +459,7 @@ pub fn is_quiet(event: &Event) -> bool
         Event::Clock(_) => true,
         Event::Idle(_) => true,
         Event::Land(_, _, _, _, _) => false,
+        Event::Alter(_, _, _, _) => true,
     }
 }
 

@@ -18,8 +18,7 @@ use Rattle.check_protocol.specs.declared.plan.ReadItem.{ReadItem}
 use Rattle.check_protocol.specs.Values.{item_of}
 use Rattle.sdb_model.specs.declared.event.Event.{Event}
 use Rattle.sdb_model.specs.declared.event.Event.TheVariants as event
-use Rattle.sdb_model.specs.Follows.{has_stopped}
-use Rattle.sdb_model.specs.Causes.{is_open, runs_vacuum}
+use Rattle.sdb_model.specs.Follows.{has_stopped, is_open, runs_vacuum}
 use Rattle.check_tables.specs.declared.open.Work.{Work}
 use Rattle.check_tables.specs.declared.open.Work.TheVariants as work
 use Rattle.check_tables.specs.declared.made.Made.{Made}

@@ -3,6 +3,7 @@
 #![tactic(auto)]
 
 mod access;
+mod catalogs;
 mod clock;
 mod finished;
 mod made;
@@ -18,6 +19,7 @@ mod tables;
 mod transaction;
 
 pub use access::reads_at;
+pub use catalogs::{add_event, catalog_after, column_refusal, is_short_name};
 pub use clock::{clock_at, prefix};
 pub use finished::has_finished;
 pub use made::{Made, calls_of, end_of};

@@ -2,8 +2,7 @@
 ghost use Rattle.std.specs.Prelude.{◌≡◌, ◌&&◌, IfOk, is_none, false};
 ghost use Rattle.std.specs.Option.{option_map_or};
 ghost use Rattle.sdb_model.specs.Sql.{reads_vacuum};
-ghost use Rattle.sdb_model.specs.Follows.{has_stopped as has_stopped_lem, stops as stops_lem};
-ghost use Rattle.sdb_model.specs.Causes.{is_open as is_open_lem, is_open_after as is_open_after_lem, runs_vacuum as runs_vacuum_lem};
+ghost use Rattle.sdb_model.specs.Follows.{has_stopped as has_stopped_lem, is_open as is_open_lem, is_open_after as is_open_after_lem, runs_vacuum as runs_vacuum_lem, stops as stops_lem};
 ghost use Rattle.sdb_contents.specs.Commits.{executed_of};
 ghost use Rattle.check_tables.specs.Values.{is_doing as is_doing_lem, is_client_doing as is_client_doing_lem, taker as taker_lem, someone_does as someone_does_lem};
 

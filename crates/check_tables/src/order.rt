@@ -1,6 +1,6 @@
 //! Whole transactions on plain tables, one after the other.
-ghost use Rattle.std.specs.Prelude.{◌≡◌, IfOk};
-ghost use Rattle.sdb_model.specs.Serial.{run_body as run_body_lem, serial as serial_lem};
+ghost use Rattle.std.specs.Prelude.{◌≡◌, IfOk, map};
+ghost use Rattle.sdb_model.specs.Serial.{Body, run_body as run_body_lem, serial as serial_lem};
 
 use crate::statement::exec;
 use crate::tables::PlainTables;
@@ -35,14 +35,14 @@ pub fn run_body(
     Ok((answers, tables))
 }
 
-/// Bodies run whole, one after the other: the answers of each, and the last tables.
+/// Bodies run whole, one after the other, under one catalog: the answers of each, and the last tables.
 pub fn serial(
     alloc: Global,
     catalog: &Catalog,
     bodies: &[Body],
     tables: PlainTables,
 ) -> Result<(Seq<Answers>, PlainTables), NoMemory>
-    ensures { IfOk result (λ done. (done.0, done.1) ≡ serial_lem catalog.now bodies.now tables) }
+    ensures { IfOk result (λ done. (done.0, done.1) ≡ serial_lem catalog.now (map Body bodies.now) tables) }
 {
     let mut answers = Seq::new(alloc);
     let mut tables = tables;

@@ -1,7 +1,8 @@
 //! The recorded transactions run whole, one after the other.
 use check_answers::statement_in;
 use check_tables::{
-    Answers, PlainTables, client_of, exec, inside_of, is_effective, ordinal_of, run_body,
+    Answers, PlainTables, catalog_after, client_of, exec, inside_of, is_effective, ordinal_of,
+    prefix, run_body,
 };
 use sdb_contents::{Executed, statements_by};
 use sdb_model::{Answer, Event, Outcome, Point, Rows, Select, Statement, TableDump, TableRows};
@@ -63,7 +64,7 @@ fn tables_after(
     }
 }
 
-// The tables after the transactions of an order, or none where one of them gives other answers.
+// The tables after the transactions of an order, each under the catalog of its point, or none where one of them gives other answers.
 fn tables_left(
     alloc: Global,
     catalog: &Catalog,
@@ -77,7 +78,8 @@ fn tables_left(
     let Some(run) = run_at(alloc, events, first)? else {
         return Ok(None);
     };
-    match tables_after(alloc, catalog, &run, tables)? {
+    let then = catalog_after(catalog, prefix(events, first.event))?;
+    match tables_after(alloc, &then, &run, tables)? {
         Some(after) => tables_left(alloc, catalog, events, rest, after),
         None => Ok(None),
     }
@@ -129,13 +131,14 @@ fn dumps(alloc: Global, catalog: &Catalog, tables: PlainTables) -> Result<TableR
     Ok(dumps)
 }
 
-/// Whether the bodies of the transactions of an outcome's order, run whole one after the other from empty tables, give their answers and the
-/// rows that are left.
+/// Whether the bodies of the transactions of an outcome's order, run whole one after the other from empty tables, with each column added in its
+/// place among them, give their answers and the rows that are left.
 pub fn is_serial(alloc: Global, catalog: &Catalog, outcome: &Outcome) -> Result<bool, NoMemory> {
     let tables = PlainTables::new(alloc);
     let events = outcome.events.as_slice();
     let Some(left) = tables_left(alloc, catalog, events, outcome.order.as_slice(), tables)? else {
         return Ok(false);
     };
-    Ok(dumps(alloc, catalog, left)? == outcome.tables)
+    let last = catalog_after(catalog, events)?;
+    Ok(dumps(alloc, &last, left)? == outcome.tables)
 }

@@ -1,8 +1,6 @@
-use Rattle.std.proofs.Common.{sym, ap, subst, ◌∙◌}
-use Rattle.std.specs.List.{list_all}
+use Rattle.std.proofs.Common.{sym, subst}
 use Rattle.sdb_model.specs.Transactions.{client_of, statements_of}
 use Rattle.check_answers.proofs.Decided.{if_ok}
-use Rattle.check_answers.specs.Rows.{answer_is_of}
 use Rattle.check_answers.specs.Turns.{AreTurns}
 use Rattle.check_answers.proofs.AnswerLaws.{transaction}
 use Rattle.check_answers.proofs.all.is_transaction_observed.Goals as goal
@@ -14,6 +12,5 @@ returns c =
     let stores = c.args.stores.now in
     let ts = c.as_slice-all.result.now in
     if_ok c.answers_have_rows.result (λ b h.
-    transaction catalog stores events c.args.id ts (subst (AreTurns events (client_of c.args.id) (statements_of events c.args.id)) (sym c.as_slice-all.ensures) c.in_ok-turns.ensures) b
-    (h ∙ ap (λ keys. list_all (λ t. answer_is_of catalog stores keys ts t t.executed.answer) ts) (c.as_slice.ensures ∙ c.in_ok-keys.ensures))
+    transaction catalog stores events c.args.id ts (subst (AreTurns events (client_of c.args.id) (statements_of events c.args.id)) (sym c.as_slice-all.ensures) c.in_ok-turns.ensures) b h
     ) c.answers_have_rows.ensures

@@ -19,7 +19,7 @@ pub returns-in-Committed : goal.returns-in-Committed
 returns-in-Committed c = if_ok c.is_of_commit.result (λ b h. subst (λ a. IsTrue b ↔ IsCaused c.args.catalog.now c.args.events.now c.args.client (executed_of c.args.executed.now) a) (sym c.in-Committed.is) h) c.is_of_commit.ensures
 
 pub returns-in-Duplicate : goal.returns-in-Duplicate
-returns-in-Duplicate c = if_ok c.is_of_duplicate.result (λ b h. subst (λ a. IsTrue b ↔ IsCaused c.args.catalog.now c.args.events.now c.args.client (executed_of c.args.executed.now) a) (sym c.in-Duplicate.is) h) c.is_of_duplicate.ensures
+returns-in-Duplicate c = if_ok c.is_of_duplicate_then.result (λ b h. subst (λ a. IsTrue b ↔ IsCaused c.args.catalog.now c.args.events.now c.args.client (executed_of c.args.executed.now) a) (sym c.in-Duplicate.is) h) c.is_of_duplicate_then.ensures
 
 pub returns-in-Busy : goal.returns-in-Busy
 returns-in-Busy c =

@@ -1,5 +1,5 @@
 use Rattle.std.proofs.Common.{ap, sym, ◌∙◌}
-use Rattle.sdb_model.specs.Causes.{is_open}
+use Rattle.sdb_model.specs.Follows.{is_open}
 use Rattle.sdb_contents.specs.Commits.{executed_of}
 use Rattle.check_answers.proofs.ReadLaws.{of_rows, not_rows}
 use Rattle.check_answers.proofs.plain.is_of_rows.Goals as goal

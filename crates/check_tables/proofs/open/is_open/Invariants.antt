@@ -1,6 +1,6 @@
 use Rattle.std.proofs.Common.{◌≡◌, drop}
 use Rattle.std.specs.Prelude.{fold}
-use Rattle.sdb_model.specs.Causes.{is_open, is_open_after}
+use Rattle.sdb_model.specs.Follows.{is_open, is_open_after}
 use Rattle.sdb_contents.specs.Commits.{all_executed}
 use Rattle.check_tables.proofs.open.is_open.Given as goal
 

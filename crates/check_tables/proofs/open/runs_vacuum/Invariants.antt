@@ -1,7 +1,7 @@
 use Rattle.std.proofs.Common.{◌≡◌, drop}
 use Rattle.std.specs.Prelude.{Bool, fold, ◌&&◌, is_none}
 use Rattle.sdb_model.specs.Sql.{reads_vacuum}
-use Rattle.sdb_model.specs.Causes.{runs_vacuum}
+use Rattle.sdb_model.specs.Follows.{runs_vacuum}
 use Rattle.sdb_model.specs.Transactions.{Executed}
 use Rattle.sdb_contents.specs.Commits.{all_executed}
 use Rattle.check_tables.proofs.open.runs_vacuum.Given as goal
