@@ -48,7 +48,11 @@ pub fn statements_of(alloc: Global, events: &[Event], client: u32) -> Result<Str
         match event {
             Event::Take(client, _, answer) => statements.add(*client, 0, answer)?,
             Event::Call(client, _, _, _, _, answer) => statements.add(*client, 1, answer)?,
-            Event::Stop(_) | Event::Clock(_) | Event::Idle(_) | Event::Land(_, _, _, _, _) => {}
+            Event::Stop(_)
+            | Event::Clock(_)
+            | Event::Idle(_)
+            | Event::Land(_, _, _, _, _)
+            | Event::Alter(_, _, _, _) => {}
         }
     }
     Ok(statements.text)

@@ -1,7 +1,9 @@
 //! Events from constants.
+use crate::answers::{AnswerCase, answer_of};
 use crate::asked::{Ask, ReplyCase, reply_of, request_of};
-use crate::said::{AnswerCase, answer_of};
-use sdb_model::{Answer, Event, Events, How};
+use crate::keys::table_of;
+use sdb_model::{Altered, Answer, Event, Events, How};
+use sdb_schema::Kind;
 use sdb_types::{Name, NameRefused, Txt};
 use std::alloc::Global;
 
@@ -15,28 +17,30 @@ pub enum Happening {
     Clock(i64),
     Idle(u32),
     Land(u32, Ask, ReplyCase),
+    /// A column of this name and kind is to be added to the table of this namespace and name.
+    Alter(&'static str, &'static str, &'static str, Kind, Altered),
 }
 
-fn said_of(alloc: Global, said: Option<AnswerCase>) -> Result<Option<Answer>, NameRefused> {
-    match said {
-        Some(said) => Ok(Some(answer_of(alloc, said)?)),
+fn answer_in(alloc: Global, case: Option<AnswerCase>) -> Result<Option<Answer>, NameRefused> {
+    match case {
+        Some(case) => Ok(Some(answer_of(alloc, case)?)),
         None => Ok(None),
     }
 }
 
-fn accepted(alloc: Global, text: &str, said: Option<AnswerCase>) -> Result<Event, NameRefused> {
+fn accepted(alloc: Global, text: &str, case: Option<AnswerCase>) -> Result<Event, NameRefused> {
     let text = Txt::new(alloc, text)?;
-    Ok(Event::Take(1, text, said_of(alloc, said)?))
+    Ok(Event::Take(1, text, answer_in(alloc, case)?))
 }
 
 fn called(
     alloc: Global,
     ask: Ask,
     answered: ReplyCase,
-    said: Option<AnswerCase>,
+    case: Option<AnswerCase>,
 ) -> Result<Event, NameRefused> {
     let store = Name::new(alloc, "ordered")?;
-    let answer = said_of(alloc, said)?;
+    let answer = answer_in(alloc, case)?;
     let request = request_of(alloc, ask)?;
     let reply = reply_of(alloc, answered)?;
     Ok(Event::Call(1, store, request, How::Seen, reply, answer))
@@ -49,14 +53,30 @@ fn landed(alloc: Global, number: u32, ask: Ask, answered: ReplyCase) -> Result<E
     Ok(Event::Land(number, store, request, How::Seen, reply))
 }
 
+fn added(
+    alloc: Global,
+    ns: &str,
+    table: &str,
+    column: &str,
+    kind: Kind,
+    altered: Altered,
+) -> Result<Event, NameRefused> {
+    let table = table_of(alloc, ns, table)?;
+    let column = Name::new(alloc, column)?;
+    Ok(Event::Alter(table, column, kind, altered))
+}
+
 pub fn event_of(alloc: Global, happening: Happening) -> Result<Event, NameRefused> {
     match happening {
-        Happening::Take(text, said) => accepted(alloc, text, said),
-        Happening::Call(ask, answered, said) => called(alloc, ask, answered, said),
+        Happening::Take(text, case) => accepted(alloc, text, case),
+        Happening::Call(ask, answered, case) => called(alloc, ask, answered, case),
         Happening::Stop(client) => Ok(Event::Stop(client)),
         Happening::Clock(moment) => Ok(Event::Clock(moment)),
         Happening::Idle(client) => Ok(Event::Idle(client)),
         Happening::Land(number, ask, answered) => landed(alloc, number, ask, answered),
+        Happening::Alter(ns, table, column, kind, altered) => {
+            added(alloc, ns, table, column, kind, altered)
+        }
     }
 }
 

@@ -112,6 +112,39 @@ fn fates_are_drawn(rt: HostRuntime) -> Result<(), Fail> {
     all_cases(rt.alloc(), "fates", FATES_DRAWN.as_slice())
 }
 
+// Columns that are to be added to tables: notes of no client.
+const ADDED: &str =
+    "scalardb report 1\nevents 3\n1 take 1 done : BEGIN\n2 alter bank.account note TEXT open\n3 alter bank.account id BIGINT refused 2\norder 0\ntables 0\nend\n";
+
+static ADDED_DRAWN: [Part; 4] = [
+    Part {
+        report: ADDED,
+        text: ">alter bank.account note TEXT open</text>",
+        times: 1,
+    },
+    Part {
+        report: ADDED,
+        text: "<title>2 alter bank.account note TEXT open</title>",
+        times: 1,
+    },
+    Part {
+        report: ADDED,
+        text: ">alter bank.account id BIGINT refused 2</text>",
+        times: 1,
+    },
+    // No arrows but those of the legend.
+    Part {
+        report: ADDED,
+        text: "class=\"call",
+        times: 5,
+    },
+];
+
+#[test]
+fn added_columns_are_noted(rt: HostRuntime) -> Result<(), Fail> {
+    all_cases(rt.alloc(), "added", ADDED_DRAWN.as_slice())
+}
+
 // A statement of signs, of a character that XML doesn't have, and of more characters than are drawn.
 const SIGNS: &str =
     "scalardb report 1\nevents 2\n1 take 1 - : <a href=\"x\">&\u{1}\u{7F}\u{FFFE}</a>\n2 take 1 - : äbcdefghij1bcdefghij2bcdefghij3bcdefghij4bcdefghij5bcdefghij\norder 0\ntables 0\nend\n";

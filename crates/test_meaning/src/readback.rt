@@ -174,6 +174,95 @@ fn wrong_late(alloc: Global) -> Result<(), Fail> {
     all_cases(alloc, "wrong late", WRONG_LATE.as_slice())
 }
 
+// Reports of columns that are added.
+static ADDED: [Read; 4] = [
+    // column_added
+    Read::Back(
+        "scalardb report 1\nevents 16\n1 take 1 done : BEGIN\n2 take 1 - : INSERT INTO bank.account (id, balance) VALUES (1, 100)\n3 call 1 ordered get bank.account(1) seen found none count 1\n4 take 1 - : COMMIT\n5 call 1 ordered put bank.account(1){balance=100,tx_id='00000000-0000-0001-0000-000000000001',tx_prepared_at=0L,tx_state=1,tx_version=1} if absent seen applied -\n6 call 1 ordered put coordinator.state('00000000-0000-0001-0000-000000000001'){tx_created_at=0L,tx_state=3} if absent seen applied -\n7 call 1 ordered put bank.account(1){balance=100,tx_committed_at=0L,tx_id='00000000-0000-0001-0000-000000000001',tx_prepared_at=0L,tx_state=3,tx_version=1} if 00000000-0000-0001-0000-000000000001 1 seen applied committed\n8 alter bank.account note TEXT done\n9 take 2 done : BEGIN\n10 take 2 - : SELECT * FROM bank.account WHERE id = 1\n11 call 2 ordered get bank.account(1) seen found bank.account(1){balance=100,tx_committed_at=0L,tx_id='00000000-0000-0001-0000-000000000001',tx_prepared_at=0L,tx_state=3,tx_version=1} rows 1 (100,1,NULL)\n12 take 2 count 1 : UPDATE bank.account SET note = 'x' WHERE id = 1\n13 take 2 - : COMMIT\n14 call 2 ordered put bank.account(1){balance=100,before_balance=100,before_tx_committed_at=0L,before_tx_id='00000000-0000-0001-0000-000000000001',before_tx_prepared_at=0L,before_tx_state=3,before_tx_version=1,note='x',tx_id='00000000-0000-0002-0000-000000000001',tx_prepared_at=0L,tx_state=1,tx_version=2} if 00000000-0000-0001-0000-000000000001 3 seen applied -\n15 call 2 ordered put coordinator.state('00000000-0000-0002-0000-000000000001'){tx_created_at=0L,tx_state=3} if absent seen applied -\n16 call 2 ordered put bank.account(1){balance=100,note='x',tx_committed_at=0L,tx_id='00000000-0000-0002-0000-000000000001',tx_prepared_at=0L,tx_state=3,tx_version=2} if 00000000-0000-0002-0000-000000000001 1 seen applied committed\norder 2\n00000000-0000-0001-0000-000000000001 5\n00000000-0000-0002-0000-000000000001 14\ntables 1\ntable bank.account 1\n(100,1,'x')\nend\n",
+    ),
+    // column_added_while_open
+    Read::Back(
+        "scalardb report 1\nevents 17\n1 take 1 done : BEGIN\n2 take 1 - : INSERT INTO bank.account (id, balance) VALUES (1, 100)\n3 call 1 ordered get bank.account(1) seen found none count 1\n4 alter bank.account note TEXT open\n5 take 1 - : COMMIT\n6 take 2 done : BEGIN\n7 call 1 ordered put bank.account(1){balance=100,tx_id='00000000-0000-0001-0000-000000000001',tx_prepared_at=0L,tx_state=1,tx_version=1} if absent seen applied -\n8 take 2 - : SELECT * FROM bank.account WHERE id = 1\n9 call 1 ordered put coordinator.state('00000000-0000-0001-0000-000000000001'){tx_created_at=0L,tx_state=3} if absent seen applied -\n10 call 2 ordered get bank.account(1) seen found bank.account(1){balance=100,tx_id='00000000-0000-0001-0000-000000000001',tx_prepared_at=0L,tx_state=1,tx_version=1} -\n11 call 1 ordered put bank.account(1){balance=100,tx_committed_at=0L,tx_id='00000000-0000-0001-0000-000000000001',tx_prepared_at=0L,tx_state=3,tx_version=1} if 00000000-0000-0001-0000-000000000001 1 seen applied committed\n12 call 2 ordered get coordinator.state('00000000-0000-0001-0000-000000000001') seen found coordinator.state('00000000-0000-0001-0000-000000000001'){tx_created_at=0L,tx_state=3} -\n13 call 2 ordered put bank.account(1){balance=100,tx_committed_at=0L,tx_id='00000000-0000-0001-0000-000000000001',tx_prepared_at=0L,tx_state=3,tx_version=1} if 00000000-0000-0001-0000-000000000001 1 seen notmet bank.account(1){balance=100,tx_committed_at=0L,tx_id='00000000-0000-0001-0000-000000000001',tx_prepared_at=0L,tx_state=3,tx_version=1} rows 1 (100,1)\n14 take 2 refused 7 1 : UPDATE bank.account SET note = 'x' WHERE id = 1\n15 take 2 - : COMMIT\n16 call 2 ordered get bank.account(1) seen found bank.account(1){balance=100,tx_committed_at=0L,tx_id='00000000-0000-0001-0000-000000000001',tx_prepared_at=0L,tx_state=3,tx_version=1} -\n17 call 2 ordered put coordinator.state('00000000-0000-0002-0000-000000000001'){tx_created_at=0L,tx_state=3} if absent seen applied committed\norder 2\n00000000-0000-0001-0000-000000000001 7\n00000000-0000-0002-0000-000000000001 15\ntables 1\ntable bank.account 1\n(100,1)\nend\n",
+    ),
+    // every form, written by hand
+    Read::Back(
+        "scalardb report 1\nevents 7\n1 alter a.b c BOOLEAN done\n2 alter a.b c INT open\n3 alter a.b c BIGINT refused 0\n4 alter a.b c TEXT refused 4\n5 alter a.b c BLOB refused 255\n6 alter done.open refused TEXT done\n7 alter coordinator.state INT INT refused 1\norder 0\ntables 0\nend\n",
+    ),
+    Read::Back(
+        "scalardb report 1\nevents 1\n1 alter a.b ccccccccccccccccccccccccccccccccccccccccccccccccccccccccccccccccccccccc TEXT done\norder 0\ntables 0\nend\n",
+    ),
+];
+
+fn added(alloc: Global) -> Result<(), Fail> {
+    all_cases(alloc, "added", ADDED.as_slice())
+}
+
+static WRONG_ADDED: [Read; 23] = [
+    Read::Bad("scalardb report 1\nevents 1\n1 alter a.b c TEXT\n", 3),
+    Read::Bad("scalardb report 1\nevents 1\n1 alter a.b c TEXT done \n", 3),
+    Read::Bad(
+        "scalardb report 1\nevents 1\n1 alter a.b c TEXT refused\n",
+        3,
+    ),
+    Read::Bad(
+        "scalardb report 1\nevents 1\n1 alter a.b c TEXT refused \n",
+        3,
+    ),
+    Read::Bad(
+        "scalardb report 1\nevents 1\n1 alter a.b c TEXT refused 256\n",
+        3,
+    ),
+    Read::Bad(
+        "scalardb report 1\nevents 1\n1 alter a.b c TEXT refused 01\n",
+        3,
+    ),
+    Read::Bad(
+        "scalardb report 1\nevents 1\n1 alter a.b c TEXT refused -1\n",
+        3,
+    ),
+    Read::Bad(
+        "scalardb report 1\nevents 1\n1 alter a.b c TEXT refused 1 1\n",
+        3,
+    ),
+    Read::Bad(
+        "scalardb report 1\nevents 1\n1 alter a.b c TEXT opened\n",
+        3,
+    ),
+    Read::Bad("scalardb report 1\nevents 1\n1 alter a.b c text done\n", 3),
+    Read::Bad("scalardb report 1\nevents 1\n1 alter a.b c BIG done\n", 3),
+    Read::Bad(
+        "scalardb report 1\nevents 1\n1 alter a.b c INTEGER done\n",
+        3,
+    ),
+    Read::Bad("scalardb report 1\nevents 1\n1 alter a.b c done\n", 3),
+    Read::Bad("scalardb report 1\nevents 1\n1 alter a.b TEXT done\n", 3),
+    Read::Bad("scalardb report 1\nevents 1\n1 alter a c TEXT done\n", 3),
+    Read::Bad(
+        "scalardb report 1\nevents 1\n1 alter a.b.c c TEXT done\n",
+        3,
+    ),
+    Read::Bad("scalardb report 1\nevents 1\n1 alter a.b 1c TEXT done\n", 3),
+    Read::Bad(
+        "scalardb report 1\nevents 1\n1 alter a.b cccccccccccccccccccccccccccccccccccccccccccccccccccccccccccccccccccccccc TEXT done\n",
+        3,
+    ),
+    Read::Bad("scalardb report 1\nevents 1\n1 alter a.b  c TEXT done\n", 3),
+    Read::Bad("scalardb report 1\nevents 1\n1 alter  a.b c TEXT done\n", 3),
+    Read::Bad(
+        "scalardb report 1\nevents 1\n1 alter a.b c TEXT done -\n",
+        3,
+    ),
+    Read::Bad("scalardb report 1\nevents 1\n1 Alter a.b c TEXT done\n", 3),
+    Read::Bad(
+        "scalardb report 1\nevents 1\n1 alter 1 a.b c TEXT done\n",
+        3,
+    ),
+];
+
+fn wrong_added(alloc: Global) -> Result<(), Fail> {
+    all_cases(alloc, "wrong added", WRONG_ADDED.as_slice())
+}
+
 static WRONG: [Read; 40] = [
     Read::Bad("", 1),
     Read::Bad("scalardb report 2\n", 1),
@@ -296,5 +385,7 @@ fn reports_are_read_back(rt: HostRuntime) -> Result<(), Fail> {
     worked_too(rt.alloc())?;
     wrong(rt.alloc())?;
     late(rt.alloc())?;
-    wrong_late(rt.alloc())
+    wrong_late(rt.alloc())?;
+    added(rt.alloc())?;
+    wrong_added(rt.alloc())
 }

@@ -1,5 +1,6 @@
 //! The report of a whole run, and of a run of nothing.
-use sdb_model::{Events, Outcome, Point, Points, Rows, TableDump, TableRows, report_text};
+use sdb_model::{Altered, Events, Outcome, Point, Points, Rows, TableDump, TableRows, report_text};
+use sdb_schema::Kind;
 use sdb_types::{Condition, NameRefused, State, TxId};
 use std::alloc::Global;
 use std::test::Fail;
@@ -148,7 +149,7 @@ impl Case for Reported {
     }
 }
 
-static EVENTS: [Reported; 3] = [
+static EVENTS: [Reported; 4] = [
     Reported(&[], "scalardb report 1\nevents 0\norder 0\ntables 0\nend\n"),
     Reported(
         &[
@@ -165,6 +166,16 @@ static EVENTS: [Reported; 3] = [
             Happening::Idle(0),
         ],
         "scalardb report 1\nevents 3\n1 land 1 ordered put coordinator.state('00000000-0000-0001-0000-000000000001'){tx_created_at=0L,tx_state=3} if absent seen applied\n2 land 2 ordered get bank.account(1) seen found none\n3 idle 0\norder 0\ntables 0\nend\n",
+    ),
+    Reported(
+        &[
+            Happening::Alter("bank", "account", "note", Kind::Text, Altered::Done),
+            Happening::Alter("bank", "account", "open", Kind::Boolean, Altered::Open),
+            Happening::Alter("shop", "item", "n", Kind::Int, Altered::Refused(2)),
+            Happening::Alter("shop", "item", "m", Kind::BigInt, Altered::Refused(0)),
+            Happening::Alter("scalardb", "x", "tx_id", Kind::Blob, Altered::Refused(255)),
+        ],
+        "scalardb report 1\nevents 5\n1 alter bank.account note TEXT done\n2 alter bank.account open BOOLEAN open\n3 alter shop.item n INT refused 2\n4 alter shop.item m BIGINT refused 0\n5 alter scalardb.x tx_id BLOB refused 255\norder 0\ntables 0\nend\n",
     ),
 ];
 

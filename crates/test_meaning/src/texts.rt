@@ -50,8 +50,8 @@ fn put_partition(
     Ok(put_span(out, &span_of(alloc, "bank", "item", partition)?)?)
 }
 
-fn put_answer(alloc: Global, out: &mut String, said: AnswerCase) -> Result<(), Fail> {
-    let answer = answer_of(alloc, said)?;
+fn put_answer(alloc: Global, out: &mut String, case: AnswerCase) -> Result<(), Fail> {
+    let answer = answer_of(alloc, case)?;
     Ok(out.push_str(answer_text(alloc, &answer)?.as_str())?)
 }
 
@@ -88,7 +88,7 @@ impl Shown {
             Shown::Record(row, _) => put_row_of(alloc, out, row),
             Shown::Row(cells, _) => Ok(put_cells(alloc, out, cells)?),
             Shown::Id(id, _) => Ok(put_id(out, id)?),
-            Shown::Answer(said, _) => put_answer(alloc, out, said),
+            Shown::Answer(case, _) => put_answer(alloc, out, case),
         }
     }
 }

@@ -1,8 +1,9 @@
 //! Scripts of every form that are read, and texts that are refused at a line.
 use sdb_loader::SchemaFault;
 use sdb_model::{Act, Move, Moves, Script, ScriptClient, Which};
+use sdb_schema::Kind;
 use sdb_script::{LineFault, ScriptRefused, print_script, read_script};
-use sdb_types::Names;
+use sdb_types::{Name, Names, TableName};
 use std::alloc::{AllocError, Global};
 use std::test::Fail;
 use test_builders::{Case, all_cases, names_of};
@@ -12,24 +13,51 @@ fn put_number(alloc: Global, out: &mut String, prefix: &str, n: i64) -> Result<(
     out.push_str(text.as_str())
 }
 
-fn put_act(alloc: Global, out: &mut String, act: Act) -> Result<(), AllocError> {
-    match act {
-        Act::Step(client) => put_number(alloc, out, " step ", i64::from(client)),
-        Act::Lose(client) => put_number(alloc, out, " lose ", i64::from(client)),
-        Act::Discard(client) => put_number(alloc, out, " drop ", i64::from(client)),
-        Act::Delay(client) => put_number(alloc, out, " delay ", i64::from(client)),
-        Act::Land(number) => put_number(alloc, out, " land ", i64::from(number)),
-        Act::Stop(client) => put_number(alloc, out, " stop ", i64::from(client)),
-        Act::Clock(ms) => put_number(alloc, out, " clock ", ms),
+fn kind_word(kind: Kind) -> &'static str {
+    match kind {
+        Kind::Boolean => "boolean",
+        Kind::Int => "int",
+        Kind::BigInt => "bigint",
+        Kind::Text => "text",
+        Kind::Blob => "blob",
     }
 }
 
-fn put_move(alloc: Global, out: &mut String, m: Move) -> Result<(), AllocError> {
+fn put_alter(
+    out: &mut String,
+    table: &TableName,
+    column: &Name,
+    kind: Kind,
+) -> Result<(), AllocError> {
+    out.push_str(" alter ")?;
+    out.push_str(table.ns.as_str())?;
+    out.push_str(" ")?;
+    out.push_str(table.table.as_str())?;
+    out.push_str(" ")?;
+    out.push_str(column.as_str())?;
+    out.push_str(" ")?;
+    out.push_str(kind_word(kind))
+}
+
+fn put_act(alloc: Global, out: &mut String, act: &Act) -> Result<(), AllocError> {
+    match act {
+        Act::Step(client) => put_number(alloc, out, " step ", i64::from(*client)),
+        Act::Lose(client) => put_number(alloc, out, " lose ", i64::from(*client)),
+        Act::Discard(client) => put_number(alloc, out, " drop ", i64::from(*client)),
+        Act::Delay(client) => put_number(alloc, out, " delay ", i64::from(*client)),
+        Act::Land(number) => put_number(alloc, out, " land ", i64::from(*number)),
+        Act::Stop(client) => put_number(alloc, out, " stop ", i64::from(*client)),
+        Act::Clock(ms) => put_number(alloc, out, " clock ", *ms),
+        Act::Alter(table, column, kind) => put_alter(out, table, column, *kind),
+    }
+}
+
+fn put_move(alloc: Global, out: &mut String, m: &Move) -> Result<(), AllocError> {
     match m {
         Move::Act(act) => put_act(alloc, out, act),
         Move::Repeat(client, count) => {
-            put_number(alloc, out, " step ", i64::from(client))?;
-            put_number(alloc, out, "x", i64::from(count))
+            put_number(alloc, out, " step ", i64::from(*client))?;
+            put_number(alloc, out, "x", i64::from(*count))
         }
         Move::Rest => out.push_str(" rest"),
     }
@@ -37,7 +65,7 @@ fn put_move(alloc: Global, out: &mut String, m: Move) -> Result<(), AllocError> 
 
 fn put_moves(alloc: Global, out: &mut String, moves: &Moves) -> Result<(), AllocError> {
     for m in moves {
-        put_move(alloc, out, *m)?;
+        put_move(alloc, out, m)?;
     }
     Ok(())
 }
@@ -455,8 +483,76 @@ fn late(alloc: Global) -> Result<(), Fail> {
     all_cases(alloc, "late", LATE.as_slice())
 }
 
+// Columns that are added.
+static ADDED: [Check; 30] = [
+    Check::Tells(
+        "run\nalter bank.account note TEXT\n",
+        "tables 0 run alter bank account note text",
+    ),
+    Check::Tells(
+        "run\nalter bank.account a boolean\nalter bank.account b Int\nalter bank.account c bigINT\nalter bank.account d BLOB\n",
+        "tables 0 run alter bank account a boolean alter bank account b int alter bank account c bigint alter bank account d blob",
+    ),
+    Check::Tells(
+        "run\nalter coordinator.state tx_id TEXT\nalter scalardb.x before_x INT\n",
+        "tables 0 run alter coordinator state tx_id text alter scalardb x before_x int",
+    ),
+    Check::Tells(
+        "run\nalter a.b TEXT TEXT\n",
+        "tables 0 run alter a b TEXT text",
+    ),
+    Check::Tells(
+        "run\nalter nnnnnnnnnnnnnnnnnnnnnnnnnnnnnnnnnnnnnnnnnnnnnnnnnnnnnnnnnnnnnnnn.nnnnnnnnnnnnnnnnnnnnnnnnnnnnnnnnnnnnnnnnnnnnnnnnnnnnnnnnnnnnnnnn nnnnnnnnnnnnnnnnnnnnnnnnnnnnnnnnnnnnnnnnnnnnnnnnnnnnnnnnnnnnnnnn TEXT\n",
+        "tables 0 run alter nnnnnnnnnnnnnnnnnnnnnnnnnnnnnnnnnnnnnnnnnnnnnnnnnnnnnnnnnnnnnnnn nnnnnnnnnnnnnnnnnnnnnnnnnnnnnnnnnnnnnnnnnnnnnnnnnnnnnnnnnnnnnnnn nnnnnnnnnnnnnnnnnnnnnnnnnnnnnnnnnnnnnnnnnnnnnnnnnnnnnnnnnnnnnnnn text",
+    ),
+    Check::Tells(
+        "run\nalter nnnnnnnnnnnnnnnnnnnnnnnnnnnnnnnnnnnnnnnnnnnnnnnnnnnnnnnnnnnnnnnnn.b c TEXT\n",
+        "2 form",
+    ),
+    Check::Tells(
+        "run\nalter a.nnnnnnnnnnnnnnnnnnnnnnnnnnnnnnnnnnnnnnnnnnnnnnnnnnnnnnnnnnnnnnnnn c TEXT\n",
+        "2 form",
+    ),
+    Check::Tells(
+        "run\nalter a.b nnnnnnnnnnnnnnnnnnnnnnnnnnnnnnnnnnnnnnnnnnnnnnnnnnnnnnnnnnnnnnnnn TEXT\n",
+        "2 form",
+    ),
+    Check::Tells("run\nalter a.b c VARCHAR\n", "2 form"),
+    Check::Tells("run\nalter a.b c INTEGER\n", "2 form"),
+    Check::Tells("run\nalter a.b c\n", "2 form"),
+    Check::Tells("run\nalter a.b c \n", "2 form"),
+    Check::Tells("run\nalter a.b\n", "2 form"),
+    Check::Tells("run\nalter\n", "2 form"),
+    Check::Tells("run\nalter b c TEXT\n", "2 form"),
+    Check::Tells("run\nalter a.b.c d TEXT\n", "2 form"),
+    Check::Tells("run\nalter .b c TEXT\n", "2 form"),
+    Check::Tells("run\nalter a. c TEXT\n", "2 form"),
+    Check::Tells("run\nalter a.b 1c TEXT\n", "2 form"),
+    Check::Tells("run\nalter a.b \"c\" TEXT\n", "2 form"),
+    Check::Tells("run\nalter a.b  c TEXT\n", "2 form"),
+    Check::Tells("run\nalter  a.b c TEXT\n", "2 form"),
+    Check::Tells("run\nalter a.b c  TEXT\n", "2 form"),
+    Check::Tells("run\nalter a.b c TEXT \n", "2 form"),
+    Check::Tells("run\nalter a.b c TEXT done\n", "2 form"),
+    Check::Tells("run\nALTER a.b c TEXT\n", "2 form"),
+    Check::Tells("alter a.b c TEXT\nrun\n", "1 form"),
+    Check::Tells(
+        "client a\nrun\nstep 1 199999\nalter a.b c TEXT\n",
+        "tables 0 a run step 1x199999 alter a b c text",
+    ),
+    Check::Tells(
+        "client a\nrun\nstep 1 200000\nalter a.b c TEXT\n",
+        "4 over moves",
+    ),
+    Check::Tells("client a\nrun\nstep 1 200000\nalter a.b c\n", "4 form"),
+];
+
+fn added(alloc: Global) -> Result<(), Fail> {
+    all_cases(alloc, "added", ADDED.as_slice())
+}
+
 // Worked ones first.
-static PRINTED: [Check; 11] = [
+static PRINTED: [Check; 13] = [
     Check::Prints(
         "schema {\"bank.account\":{\"partition-key\":[\"id\"],\"columns\":{\"id\":\"INT\",\"balance\":\"INT\"}}}\nclient a\n  BEGIN\n  INSERT INTO bank.account (id, balance) VALUES (1, 100)\n  COMMIT\nrun\nrest\n",
         "schema {\"bank.account\":{\"clustering-key\":[],\"columns\":{\"balance\":\"INT\",\"id\":\"INT\"},\"partition-key\":[\"id\"],\"secondary-index\":[]}}\nclient a\n  BEGIN\n  INSERT INTO bank.account (id, balance) VALUES (1, 100)\n  COMMIT\nrun\nrest\n",
@@ -495,6 +591,14 @@ static PRINTED: [Check; 11] = [
         "client a\nrun\ndelay 1\nland 1\nland 200000",
         "client a\nrun\ndelay 1\nland 1\nland 200000\n",
     ),
+    Check::Prints(
+        "schema {\"bank.account\":{\"partition-key\":[\"id\"],\"columns\":{\"id\":\"INT\",\"balance\":\"INT\"}}}\nclient c1\n  BEGIN\n  INSERT INTO bank.account (id, balance) VALUES (1, 100)\n  COMMIT\nclient c2\n  BEGIN\n  SELECT * FROM bank.account WHERE id = 1\n  UPDATE bank.account SET note = 'x' WHERE id = 1\n  COMMIT\nrun\nstep 1 7\nalter bank.account note TEXT\nrest\n",
+        "schema {\"bank.account\":{\"clustering-key\":[],\"columns\":{\"balance\":\"INT\",\"id\":\"INT\"},\"partition-key\":[\"id\"],\"secondary-index\":[]}}\nclient c1\n  BEGIN\n  INSERT INTO bank.account (id, balance) VALUES (1, 100)\n  COMMIT\nclient c2\n  BEGIN\n  SELECT * FROM bank.account WHERE id = 1\n  UPDATE bank.account SET note = 'x' WHERE id = 1\n  COMMIT\nrun\nstep 1 7\nalter bank.account note TEXT\nrest\n",
+    ),
+    Check::Prints(
+        "run\nalter a.b c boolean\nalter a.b d iNt\nalter scalardb.x e BigInt\nalter a.b f text\nalter a.b g BLOB",
+        "run\nalter a.b c BOOLEAN\nalter a.b d INT\nalter scalardb.x e BIGINT\nalter a.b f TEXT\nalter a.b g BLOB\n",
+    ),
 ];
 
 fn are_printed(alloc: Global) -> Result<(), Fail> {
@@ -507,7 +611,8 @@ fn scripts_are_read(rt: HostRuntime) -> Result<(), Fail> {
     places(rt.alloc())?;
     client_lines(rt.alloc())?;
     moves(rt.alloc())?;
-    late(rt.alloc())
+    late(rt.alloc())?;
+    added(rt.alloc())
 }
 
 #[test]

@@ -41,8 +41,8 @@ fn conflict(alloc: Global, place: Place, row: Option<Row>) -> Result<Answer, Nam
 }
 
 // An answer that names no key.
-fn plain(said: AnswerCase) -> Answer {
-    match said {
+fn plain(case: AnswerCase) -> Answer {
+    match case {
         AnswerCase::Count(count) => Answer::Count(count),
         AnswerCase::Done => Answer::Done,
         AnswerCase::Committed => Answer::Committed,
@@ -56,13 +56,13 @@ fn plain(said: AnswerCase) -> Answer {
     }
 }
 
-pub fn answer_of(alloc: Global, said: AnswerCase) -> Result<Answer, NameRefused> {
-    match said {
+pub fn answer_of(alloc: Global, case: AnswerCase) -> Result<Answer, NameRefused> {
+    match case {
         AnswerCase::Rows(rows) => Ok(Answer::Rows(rows_of(alloc, rows)?)),
         AnswerCase::Duplicate(place) => Ok(Answer::Duplicate(key_of(alloc, place)?)),
         AnswerCase::Busy(place, id, moment) => Ok(Answer::Busy(key_of(alloc, place)?, id, moment)),
         AnswerCase::Conflict(place, row) => conflict(alloc, place, row),
         AnswerCase::BadRecord(place) => Ok(Answer::BadRecord(key_of(alloc, place)?)),
-        _ => Ok(plain(said)),
+        _ => Ok(plain(case)),
     }
 }
