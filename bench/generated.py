@@ -4,8 +4,9 @@
     bench/generated.py FIRST COUNT [PROGRAM [JUDGE]]
 
 A seed gives a script: one to six clients, statements over two to four tables on all stores, both ends of every kind, lost and dropped
-calls, stops, clocks, VACUUM; and of a seed past 10,000 delayed calls and requests that land late. The program runs it, and the judge
-is given the script and the report. The first seed that fails is printed, with its script in as few moves and statements as still fail.
+calls, stops, clocks, VACUUM; of a seed past 10,000 delayed calls and requests that land late too; and of one past 20,000 columns that are
+added, and statements that name them. The program runs it, and the judge is given the script and the report. The first seed that fails is
+printed, with its script in as few moves and statements as still fail.
 
 Build both first: cd crates/scalardb && rt run -- replay < ../../examples/first.script; the same in crates/judge.
 """
@@ -23,6 +24,8 @@ TABLES = [
     ("shop", "order", {"a": "INT", "b": "TEXT", "n": "INT", "note": "BLOB"}, ["a", "b"], ["n DESC"]),
 ]
 NAMES = ["ann", "bob", "eve", "carl"]
+# columns that moves add
+ADDED = {"extra": "INT", "mark": "TEXT", "since": "BIGINT"}
 
 
 class Maker:
@@ -34,6 +37,7 @@ class Maker:
         self.last_key = self.draw.choice([0, 1, 3])
         self.slow = self.draw.random() < 0.5
         self.late = seed > 10000
+        self.grows = seed > 20000
 
     def literal(self, kind, key=False):
         if not key and self.draw.random() < 0.08:
@@ -53,8 +57,14 @@ class Maker:
     def keys(self, table):
         return table[3] + [c.split()[0] for c in table[4]]
 
-    def tests(self, table):
-        keys, kinds = self.keys(table), table[2]
+    def kinds(self, table):
+        """The columns that a statement may name: those of the table, and some that may have been added to it."""
+        if self.grows and self.draw.random() < 0.4:
+            return table[2] | ADDED
+        return table[2]
+
+    def tests(self, table, kinds):
+        keys = self.keys(table)
         form = self.draw.random()
         if form < 0.55:
             names = keys
@@ -72,13 +82,13 @@ class Maker:
 
     def statement(self):
         table = self.draw.choice(self.tables)
-        kinds, keys = table[2], self.keys(table)
+        kinds, keys = self.kinds(table), self.keys(table)
         others = [c for c in sorted(kinds) if c not in keys]
         form = self.draw.random()
         if form < 0.3:
             columns = self.draw.choice(["*", ", ".join(self.draw.sample(sorted(kinds), 2))])
             limit = f" LIMIT {self.draw.randint(0, 3)}" if self.draw.random() < 0.2 else ""
-            return f"SELECT {columns} FROM {self.name(table)}{self.tests(table)}{limit}"
+            return f"SELECT {columns} FROM {self.name(table)}{self.tests(table, kinds)}{limit}"
         if form < 0.6:
             names = keys + self.draw.sample(others, self.draw.randint(0, len(others)))
             values = ", ".join(self.literal(kinds[n], n in keys) for n in names)
@@ -86,9 +96,9 @@ class Maker:
             return f"{word} INTO {self.name(table)} ({', '.join(names)}) VALUES ({values})"
         if form < 0.8:
             column = self.draw.choice(others)
-            return f"UPDATE {self.name(table)} SET {column} = {self.literal(kinds[column])}{self.tests(table)}"
+            return f"UPDATE {self.name(table)} SET {column} = {self.literal(kinds[column])}{self.tests(table, kinds)}"
         if form < 0.95:
-            return f"DELETE FROM {self.name(table)}{self.tests(table)}"
+            return f"DELETE FROM {self.name(table)}{self.tests(table, kinds)}"
         return self.draw.choice(["BEGIN", "SELECT * FROM bank.none", "UPDATE x SET", "SELECT 'a' FROM bank.account", "VACUUM"])
 
     def client(self):
@@ -102,10 +112,20 @@ class Maker:
             lines += self.draw.choices([["COMMIT"], ["ROLLBACK"], []], [8, 1, 1])[0]
         return lines
 
+    def alter(self):
+        table = self.draw.choice(self.tables)
+        name = self.draw.choice([f"{table[0]}.{table[1]}"] * 9 + ["bank.none", "coordinator.state"])
+        column = self.draw.choice(list(ADDED) * 4 + [sorted(table[2])[0], "tx_id", "before_x"])
+        kind = ADDED.get(column, "TEXT") if self.draw.random() < 0.8 else self.draw.choice(["BOOLEAN", "INT", "BIGINT", "TEXT", "BLOB"])
+        return f"alter {name} {column} {self.draw.choice([kind, kind.lower()])}"
+
     def moves(self, clients):
         moves, now, delayed = [], 0, 0
         for _ in range(self.draw.randint(0, 60)):
             client, form = self.draw.randint(1, clients), self.draw.random()
+            if self.grows and self.draw.random() < 0.2:
+                moves += self.draw.choice([["rest"], [], []]) + [self.alter()]
+                continue
             if self.late and self.draw.random() < 0.15:
                 moves.append(f"delay {client}")
                 delayed += 1

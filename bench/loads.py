@@ -6,7 +6,6 @@ most memory in KiB that the process had. bench/loads.py --write FOLDER writes th
 """
 import os
 import random
-import resource
 import subprocess
 import sys
 import tempfile
@@ -90,17 +89,12 @@ def script(name):
     return make(*sizes)
 
 
-def memory(program, text):
-    """The most memory of a run, in KiB: a child of its own, so that the figure is of that run alone."""
-    child = os.fork()
-    if child == 0:
-        subprocess.run([program, "replay"], input=text.encode(), stdout=subprocess.DEVNULL, check=True)
-        peak = resource.getrusage(resource.RUSAGE_CHILDREN).ru_maxrss
-        with open(os.environ["PEAK"], "w", encoding="utf8") as f:
-            f.write(str(peak))
-        os._exit(0)
-    os.waitpid(child, 0)
-    with open(os.environ["PEAK"], encoding="utf8") as f:
+def memory(program, text, folder):
+    """The most memory of a run, in KiB. A small process starts it: the figure of a child counts what its parent had at the start."""
+    peak = os.path.join(folder, "peak")
+    command = ["/usr/bin/time", "-f", "%M", "-o", peak, program, "replay"]
+    subprocess.run(command, input=text.encode(), stdout=subprocess.DEVNULL, check=True)
+    with open(peak, encoding="utf8") as f:
         return int(f.read())
 
 
@@ -118,12 +112,11 @@ def main():
                 f.write(script(name))
         return
     with tempfile.TemporaryDirectory() as folder:
-        os.environ["PEAK"] = os.path.join(folder, "peak")
         print("| load | M instructions | KiB |\n|---|---|---|")
         for name in sys.argv[2:] or LOADS:
             text = script(name)
             count = instructions(sys.argv[1], text, folder)
-            print("| %s | %d | %d |" % (name, round(count / 1e6), memory(sys.argv[1], text)), flush=True)
+            print("| %s | %d | %d |" % (name, round(count / 1e6), memory(sys.argv[1], text, folder)), flush=True)
 
 
 if __name__ == "__main__":

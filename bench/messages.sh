@@ -45,6 +45,10 @@ refused 3 'client ann\nrun\ndelay 4\n' replay
 refused 2 'run\nland 0\n' replay
 refused 2 'run\nland 200001\n' replay
 refused 2 'run\nclock 9007199254740993\n' replay
+refused 2 'run\nalter bank.account note\n' replay
+refused 2 'run\nalter bank.account note VARCHAR\n' replay
+refused 2 'run\nalter account note TEXT\n' replay
+refused 2 'run\nalter bank.account 7up TEXT\n' replay
 refused 1 'place shop mysql\nrun\n' replay
 refused 2 'place shop ordered\nplace shop ordered\nrun\n' replay
 refused 1 'place scalardb hashed\nrun\n' replay
