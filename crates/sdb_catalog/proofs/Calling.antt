@@ -20,6 +20,7 @@ pub called : (ns : List ℕ) (q : Request) (r : Reply) (old new : Attached) → 
 called ns q r old new bare there =
     let call = at_first ns q r old new bare there in
     record {
+      formed = call.formed;
       before = call.before;
       now = call.now;
       stood = call.stood;
@@ -43,6 +44,7 @@ left_by q reply.Fault m n p = p
 left_by q reply.NoMemory m n p = inl p
 left_by q (reply.Found found) m n p = inr p.1
 left_by q (reply.Rows rows) m n p = inr p.1
+left_by q (reply.NotAll place there) m n p = inr p.1
 left_by q reply.Applied m n p = inr p.1
 left_by q (reply.NotMet found) m n p = inr p.1
 

@@ -27,6 +27,7 @@ use Rattle.sdb_catalog.proofs.Reading.{own_rises}
 
 pub called_from : (q : Request) (r : Reply) (old mid : Attached) (new : List StoreView) → ((i : ℕ) → old.known i → mid.known i) → Called q r mid new → Called q r (with_states old mid.views) new
 called_from q r old mid new goes call = record {
+  formed = call.formed;
   before = call.before;
   now = call.now;
   stood = call.stood;

@@ -2,7 +2,7 @@
 ghost use Rattle.std.specs.Prelude.{◌≡◌, ◌≢◌, ◌<◌, [], length, IfOk, IfErr};
 ghost use Rattle.sdb_types.specs.declared.record.Request.TheVariants.{Scan};
 ghost use Rattle.sdb_types.specs.declared.record.Reply.TheVariants.{Rows};
-ghost use Rattle.sdb_types.specs.Contents.{CanAnswer};
+ghost use Rattle.sdb_types.specs.Contents.{CanAnswer, IsWellFormed};
 ghost use Rattle.sdb_catalog.specs.Calls.{Called, GoOn, IsStopped, ContentsAreUnchanged, MayChange, metadata_span};
 
 use crate::refused::CatalogRefused;
@@ -16,6 +16,7 @@ use std::alloc::Global;
 pub fn call<R: Registry>(stores: &mut R, request: &Request) -> Result<Reply, CatalogRefused>
     requires some { 0 < length (R.state stores.old).views }
     requires bare { (R.state stores.old).places ≡ [] }
+    requires formed { IsWellFormed request.now }
     ensures called { IfOk result (λ reply. Called request.now reply (R.state stores.old) (R.state stores.new).views) }
     ensures lawful { IfOk result (λ reply. CanAnswer request.now reply) }
     ensures answered { IfOk result (λ reply. (reply ≢ Reply.Fault) × (reply ≢ Reply.NoMemory)) }

@@ -1,6 +1,6 @@
 -- Changes of what is at one key.
 use Rattle.std.proofs.Common.{◌≡◌, Bool, List, true, false, cond, Option, Some, None, refl, sym, ap, ◌∙◌}
-use Rattle.std.specs.Prelude.{if◌then◌else◌}
+use Rattle.std.specs.Prelude.{if◌then◌else◌, is_some}
 use Rattle.std.specs.Option.{option_map}
 use Rattle.std.specs.Ordering.{eq_by_cmp}
 use Rattle.std.specs.FinMap.{get, insert, remove, get-insert, get-remove, same_map}
@@ -10,6 +10,7 @@ use Rattle.sdb_types.specs.Order.{key_cmp}
 use Rattle.sdb_types.specs.Contents.{Contents, record_of, holds, after}
 use Rattle.sdb_types.specs.Exact.{equal_of}
 use Rattle.sdb_types.proofs.Public.{key_exact, key_total}
+use Rattle.sdb_store.specs.Batches.{replaced}
 
 -- A change of what is at k alone: other keys keep what they have, and what k then has comes from what it had.
 pub record IsLocal (k : Key) (op : Contents → Contents) : Type 0 where
@@ -54,3 +55,10 @@ remove_absent m k none = same_map key_total key_exact (remove m k) m (λ q.
       | true ↦ λ p. sym none ∙ ap (get m) (sym (key_exact q k (equal_of (key_cmp q k) p)))
       | false ↦ λ p. refl
     ] refl)
+
+pub replace_local : (r : Record) → IsLocal r.key (replaced r)
+replace_local r = if_local r.key (λ m. insert m r.key r.columns) is_some (insert_local r.key r.columns)
+
+-- and nothing is put over nothing
+pub replace_absent : (m : Contents) (r : Record) → get m r.key ≡ None → replaced r m ≡ m
+replace_absent m r none = ap (λ (o : Option (List Pair)). cond (is_some o) (insert m r.key r.columns) m) none

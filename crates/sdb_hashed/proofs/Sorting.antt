@@ -1,6 +1,6 @@
 -- Edits of a list of records in the order of their keys, and the map that it makes.
 use Rattle.std.proofs.Common.{◌≡◌, ℕ, zero, suc, ◌+◌, ◌<◌, List, [], ◌∷◌, map, filter, length, get_or, slice_set, Bool, true, false, cond, not, Option, Some, None, Result, Ok, Err, IfOk, IfErr, Bor, refl, sym, ap, subst, ◌∙◌, arith}
-use Rattle.std.specs.Prelude.{T, OnOk, OnErr}
+use Rattle.std.specs.Prelude.{T, OnOk, OnErr, is_some}
 use Rattle.std.specs.Option.{option_copied, option_map}
 use Rattle.std.specs.Slice.{IsItemAt}
 use Rattle.std.specs.List.{insert as insert_at, remove as remove_at}
@@ -15,6 +15,7 @@ use Rattle.sdb_hashed.specs.Types.{Key, Pair, Record, Span}
 use Rattle.sdb_types.specs.Order.{key_cmp}
 use Rattle.sdb_types.specs.Contents.{record_of, record_at, in_span, rows_in, rise, starts_after}
 use Rattle.sdb_types.proofs.Public.{and_first, and_second, both_t, key_exact, key_total, less_of, starts_trans, t_both}
+use Rattle.sdb_store.specs.Batches.{replaced as replaced_by}
 use Rattle.sdb_store.proofs.Public.{rises}
 use Rattle.sdb_hashed.specs.Bucket.{IsAt, IsGapFor, entries_of, contents_of_bucket}
 use Rattle.sdb_hashed.proofs.Changes.{remove_absent}
@@ -212,6 +213,16 @@ at_record rs k i (Some x) h at item = ap Some item.1 ∙ own_record rs k i x.now
 
 pub nothing_at : (rs : List Record) (k : Key) (i : ℕ) → IsGapFor rs k i → contents_of_bucket rs ≡ remove (contents_of_bucket rs) k
 nothing_at rs k i gap = sym (remove_absent (contents_of_bucket rs) k (get-from_entries key_total (entries_of rs) k ∙ missed rs k i gap))
+
+-- a record over the one at its key
+pub replaced_there : (rs : List Record) (i : ℕ) (r : Record) → rise rs ≡ true → IsAt rs r.key i → contents_of_bucket (slice_set rs i r) ≡ replaced_by r (contents_of_bucket rs)
+replaced_there rs i r h at =
+    replaced_holds rs h i r at
+    ∙ sym (ap (λ (o : Option (List Pair)). cond (is_some o) (insert (contents_of_bucket rs) r.key r.columns) (contents_of_bucket rs)) (get-from_entries key_total (entries_of rs) r.key ∙ met rs r.key i r h at))
+
+pub nothing_replaced : (rs : List Record) (r : Record) (i : ℕ) → IsGapFor rs r.key i → contents_of_bucket rs ≡ replaced_by r (contents_of_bucket rs)
+nothing_replaced rs r i gap =
+    sym (ap (λ (o : Option (List Pair)). cond (is_some o) (insert (contents_of_bucket rs) r.key r.columns) (contents_of_bucket rs)) (get-from_entries key_total (entries_of rs) r.key ∙ missed rs r.key i gap))
 
 ---- an edit that may find no memory
 

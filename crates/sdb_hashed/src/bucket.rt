@@ -126,13 +126,17 @@ impl Rows for Bucket {
         }
     }
 
-    fn remove(&mut self, key: &Key) -> Result<(), NoMemory> {
+    fn replace(&mut self, rec: Record) {
+        match self.search(&rec.key) {
+            Ok(i) => self.records.replace(i, rec),
+            Err(_) => {}
+        }
+    }
+
+    fn remove(&mut self, key: &Key) {
         match self.search(key) {
-            Ok(i) => {
-                self.records.remove(i);
-                Ok(())
-            }
-            Err(_) => Ok(()),
+            Ok(i) => self.records.remove(i),
+            Err(_) => {}
         }
     }
 }

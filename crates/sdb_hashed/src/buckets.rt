@@ -86,7 +86,11 @@ impl Rows for Buckets {
         self.tables.insert(rec)
     }
 
-    fn remove(&mut self, key: &Key) -> Result<(), NoMemory> {
+    fn replace(&mut self, rec: Record) {
+        self.tables.replace(rec)
+    }
+
+    fn remove(&mut self, key: &Key) {
         self.tables.remove(key)
     }
 

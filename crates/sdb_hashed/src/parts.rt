@@ -90,10 +90,17 @@ impl<K: Part + Duplicate, R: Rows> Rows for Parts<K, R> {
         }
     }
 
-    fn remove(&mut self, key: &Key) -> Result<(), NoMemory> {
+    fn replace(&mut self, rec: Record) {
+        match self.rows.get_mut(K::of(&rec.key)) {
+            Some(rows) => rows.replace(rec),
+            None => {}
+        }
+    }
+
+    fn remove(&mut self, key: &Key) {
         match self.rows.get_mut(K::of(key)) {
             Some(rows) => rows.remove(key),
-            None => Ok(()),
+            None => {}
         }
     }
 

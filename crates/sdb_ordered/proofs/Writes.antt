@@ -1,6 +1,6 @@
 -- What a put or a delete answers where its condition holds, and where it does not.
-use Rattle.std.proofs.Common.{◌≡◌, ◌∙◌, List, Bool, true, false, cond, Some, Ok, Err, sym, ap}
-use Rattle.std.specs.Prelude.{Option, Result, OnErr}
+use Rattle.std.proofs.Common.{◌≡◌, ◌∙◌, List, Bool, true, false, cond, Some, None, Ok, Err, sym, ap}
+use Rattle.std.specs.Prelude.{Option, Result, OnErr, is_some}
 use Rattle.std.specs.Option.{option_map}
 use Rattle.std.specs.BTreeMap.{is_at}
 use Rattle.std.specs.Map.{lookup}
@@ -16,6 +16,7 @@ use Rattle.sdb_types.specs.declared.record.Reply.{Reply}
 use Rattle.sdb_types.specs.declared.record.Reply.TheVariants.{Applied, NotMet}
 use Rattle.sdb_types.specs.Contents.{Contents, record_of, record_at, holds}
 use Rattle.sdb_types.proofs.Public.{key_exact, key_total}
+use Rattle.sdb_store.specs.Batches.{replaced}
 use Rattle.sdb_store.specs.Store.{Answers}
 use Rattle.sdb_ordered.proofs.TreeLemmas.{get_entries, inserted}
 
@@ -55,3 +56,11 @@ module _ (condition : Condition) (key : Key) (old new : Contents) (found : Optio
   pub delete : true ≡ holds condition (stored_at key found) → new ≡ remove old key → Answers (DeleteIf key condition) Applied old new
   delete h e =
       (sym (ap (λ b. cond b Applied (NotMet (record_at old key))) (judged true h)), e ∙ sym (ap (λ b. cond b (remove old key) old) (judged true h)))
+
+---- a record over the one at its key
+
+pub replaced_some : (r : Record) (m : Contents) (columns : List Pair) → Some columns ≡ get m r.key → replaced r m ≡ insert m r.key r.columns
+replaced_some r m columns there = sym (ap (λ (o : Option (List Pair)). cond (is_some o) (insert m r.key r.columns) m) there)
+
+pub replaced_none : (r : Record) (m : Contents) → None ≡ get m r.key → replaced r m ≡ m
+replaced_none r m none = sym (ap (λ (o : Option (List Pair)). cond (is_some o) (insert m r.key r.columns) m) none)

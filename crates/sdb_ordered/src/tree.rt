@@ -158,9 +158,18 @@ impl Rows for Tree {
         Ok(())
     }
 
-    fn remove(&mut self, key: &Key) -> Result<(), NoMemory> {
+    fn replace(&mut self, rec: Record) {
+        let (key, columns) = rec.into_parts();
+        match self.rows.get_mut(&key) {
+            Some(found) => {
+                *found = columns;
+            }
+            None => {}
+        }
+    }
+
+    fn remove(&mut self, key: &Key) {
         self.rows.remove(key);
-        Ok(())
     }
 
     fn put(&mut self, rec: &Record, condition: &Condition) -> Result<Reply, NoMemory> {

@@ -30,12 +30,12 @@ use Rattle.sdb_sqlite.specs.Stopping.{stop_reply}
 use Rattle.sdb_sqlite.specs.Statements.{get_body}
 use Rattle.sdb_sqlite.specs.Table.{records_schema}
 use Rattle.sdb_sqlite.specs.Rows.{IsRowOfStore, row_key, entry_of, own_columns, key_or_none, has_key, rows_at, contents_of_rows, blob_of}
-use Rattle.sdb_sqlite.specs.Database.{HasTable, IsAnswered, contents_of_state}
+use Rattle.sdb_sqlite.specs.Database.{HasTable, HoldsRows, IsAnswered, contents_of_state}
 use Rattle.sdb_sqlite.specs.Asked.{IsDue, found_as, found_in, found_by, IsGot, Gets, got_reply}
 use Rattle.sdb_sqlite.proofs.Texts.{by_k, body_shown, get_is, get_plain}
 use Rattle.sdb_sqlite.proofs.Keys.{same_key}
 use Rattle.sdb_sqlite.proofs.Lists.{filter_same, weaker, passed, few_permutation}
-use Rattle.sdb_sqlite.proofs.Queries.{passes, blobs_test, answered, query_keeps}
+use Rattle.sdb_sqlite.proofs.Queries.{passes, blobs_test, answered, query_keeps, rows_held}
 
 ---- the connection is open and returns what was written
 
@@ -92,7 +92,7 @@ found_is q rows answer all is =
     ap (found_in q) is ∙ first_body q (rows_at q rows) (passed IsRowOfStore (has_key q) rows all)
     ∙ ap (λ o. Ok (option_map (λ columns. record_of (q, columns)) o)) (sym (held_at q rows))
 
-shown_rows : (old new : State) (q : Key) (rows : List Row) → key_fits q → KeyIsEncodable q → HasTable old → Shown get_body (Blob (key_bytes q) ∷ []) old new rows
+pub shown_rows : (old new : State) (q : Key) (rows : List Row) → key_fits q → KeyIsEncodable q → HoldsRows old → Shown get_body (Blob (key_bytes q) ∷ []) old new rows
     → rows ≡ map (λ r. column r 4 ∷ []) (rows_at q (old.now.trees 0))
 shown_rows old new q rows known fits it h =
     let read = reads_as get_body (Blob (key_bytes q) ∷ []) old new records_schema it.schema _ get_is.0 get_plain get_is.1 rows h in
@@ -107,7 +107,7 @@ pub record IsFound (q : Key) (old new : State) (found : Result (Option Record) S
   pub same : new.now ≡ old.now
   pub there : IfOk found (λ o. o ≡ record_at (contents_of_state old) q)
 
-due_found : (q : Key) (m : Contents) (due found : Result (Option Record) Stopped) → IsDue due found → IfOk due (λ o. o ≡ record_at m q) → IfOk found (λ o. o ≡ record_at m q)
+pub due_found : (q : Key) (m : Contents) (due found : Result (Option Record) Stopped) → IsDue due found → IfOk due (λ o. o ≡ record_at m q) → IfOk found (λ o. o ≡ record_at m q)
 due_found q m due found (inl e) h = subst (λ (r : Result (Option Record) Stopped). IfOk r (λ o. o ≡ record_at m q)) (sym e) h
 due_found q m due found (inr e) h = subst (λ (r : Result (Option Record) Stopped). IfOk r (λ o. o ≡ record_at m q)) (sym e) tt
 
@@ -124,7 +124,7 @@ got_is g q old new found sure known fits it got =
   where
     by_answer : (answer : Result (List Row) Error) → MatchResult answer (Shown get_body (Blob (key_bytes q) ∷ []) (state g old) (state g new)) (FailsToQuery get_body (Blob (key_bytes q) ∷ []) (state g old) (state g new)) → IfOk (found_by q answer) (λ o. o ≡ record_at (contents_of_state (state g old)) q)
     by_answer (Ok rows) h = subst (λ (r : Result (Option Record) Stopped). IfOk r (λ o. o ≡ record_at (contents_of_state (state g old)) q))
-        (sym (found_is q ((state g old).now.trees 0) rows it.rows (shown_rows (state g old) (state g new) q rows known fits it h))) refl
+        (sym (found_is q ((state g old).now.trees 0) rows it.rows (shown_rows (state g old) (state g new) q rows known fits (rows_held (state g old) it) h))) refl
     by_answer (Err e) h = tt
 
 ---- what a call is answered of

@@ -1,24 +1,27 @@
 -- What any reply of the store is, whether or not its contents are known.
-use Rattle.std.proofs.Common.{◌≡◌, inl, inr, ℕ, List, [], ◌∷◌, true, false, cond, None, Some, Option, Ok, Err, Result, IfOk, IfSome, refl, sym, subst}
+use Rattle.std.specs.Prelude.{◌+◌, ◌-◌, ◌≤◌, IsSomeAnd, slice_get}
+use Rattle.std.proofs.Common.{◌≡◌, inl, inr, ℕ, suc, arith, List, [], ◌∷◌, true, false, cond, None, Some, Option, Ok, Err, Result, IfOk, IfSome, refl, sym, subst}
 use Rattle.std.specs.List.{AllByRecursion}
 use Rattle.std.proofs.lemmas.List.Elements.{All-from_recursion}
 use Rattle.std.proofs.lemmas.List.Sums.{list_all-from_AllPass}
 use Rattle.std.proofs.lemmas.List.Sorted.{All-permutation}
-use Rattle.sdb_sqlite.specs.Types.{Condition, Error, Key, Record, Request, Span}
+use Rattle.sdb_sqlite.specs.Types.{Condition, Error, Key, Put, Record, Request, Span}
 use Rattle.sqlite.specs.Order.{Row, column}
 use Rattle.sqlite.specs.Store.{Ghosts}
 use Rattle.sqlite.specs.Held.{Held as Connected}
-use Rattle.sdb_types.specs.declared.record.Request.TheVariants.{Get, Scan, PutIf, DeleteIf}
+use Rattle.sdb_types.specs.declared.record.Request.TheVariants.{Get, Scan, PutIf, DeleteIf, PutAll}
 use Rattle.sdb_types.specs.Contents.{in_span, rise, are_rows_of, CanAnswer, IsUnmet}
 use Rattle.sdb_types.proofs.Public.{and_both}
 use Rattle.sdb_codec.specs.Reading.{key_in}
+use Rattle.sdb_sqlite.specs.declared.batch.BatchWritten.{BatchWritten}
+use Rattle.sdb_sqlite.specs.declared.batch.BatchWritten.TheVariants.{AllWritten, FirstUnmet}
 use Rattle.sdb_sqlite.specs.declared.calls.Written.{Written}
 use Rattle.sdb_sqlite.specs.declared.calls.Written.TheVariants.{Applied, NotMet}
 use Rattle.sdb_sqlite.specs.declared.refused.Stopped.{Stopped}
 use Rattle.sdb_sqlite.specs.declared.refused.Stopped.TheVariants as stopped
 use Rattle.sdb_sqlite.specs.Stopping.{stopped_by, stop_reply}
 use Rattle.sdb_sqlite.specs.Rows.{blob_of}
-use Rattle.sdb_sqlite.specs.Asked.{IsDue, found_as, found_in, found_by, IsGot, Gets, got_reply, row_body, row_keyed, row_spelled, row_record, then_records, rows_records, IsInOrder, IsListedBy, IsListed, Scans, rows_reply, written_by, PutsOver, RemovesThere, RemovesOver, Follows, Puts, Removes, write_reply}
+use Rattle.sdb_sqlite.specs.Asked.{IsDue, found_as, found_in, found_by, IsGot, Gets, got_reply, row_body, row_keyed, row_spelled, row_record, then_records, rows_records, IsInOrder, IsListedBy, IsListed, Scans, rows_reply, written_by, PutsOver, RemovesThere, RemovesOver, Follows, Puts, Continues, PutsEach, Commits, Ends, PutsAll, Removes, batch_reply, write_reply}
 
 ---- gets
 
@@ -155,14 +158,71 @@ delete_reply_lawful k c (Ok Applied) h = tt
 delete_reply_lawful k c (Ok (NotMet found)) h = h
 delete_reply_lawful k c (Err s) h = stopped_lawful (DeleteIf k c) s
 
+pub put_ok : {S : Type 0} (g : Ghosts S) (r : Record) (c : Condition) (old new : Connected S) (result : Result Written Stopped) → Puts g r c old new result → IfOk result (unmet_or c r.key)
+put_ok g r c old new result (inl unfit) = same_ok c r.key (Err stopped.Unfit) result unfit.2 tt
+put_ok g r c old new result (inr (fits, inl out_of_memory)) = same_ok c r.key (Err stopped.NoMemory) result out_of_memory.1 tt
+put_ok g r c old new result (inr (fits, inr put)) =
+    follows_ok c r.key put.mid new result (PutsOver g r c put.mid new result) put.found (got_own g r.key old put.mid put.found put.got) (λ o own next. over_ok g r c put.mid new result o own next) put.next
+
 pub put_lawful : {S : Type 0} (g : Ghosts S) (r : Record) (c : Condition) (old new : Connected S) (result : Result Written Stopped) → Puts g r c old new result → CanAnswer (PutIf r c) (write_reply result)
-put_lawful g r c old new result (inl unfit) = put_reply_lawful r c result (same_ok c r.key (Err stopped.Unfit) result unfit.2 tt)
-put_lawful g r c old new result (inr (fits, inl out_of_memory)) = put_reply_lawful r c result (same_ok c r.key (Err stopped.NoMemory) result out_of_memory.1 tt)
-put_lawful g r c old new result (inr (fits, inr put)) =
-    put_reply_lawful r c result (follows_ok c r.key put.mid new result (PutsOver g r c put.mid new result) put.found (got_own g r.key old put.mid put.found put.got) (λ o own next. over_ok g r c put.mid new result o own next) put.next)
+put_lawful g r c old new result puts = put_reply_lawful r c result (put_ok g r c old new result puts)
 
 pub delete_lawful : {S : Type 0} (g : Ghosts S) (k : Key) (c : Condition) (old new : Connected S) (result : Result Written Stopped) → Removes g k c old new result → CanAnswer (DeleteIf k c) (write_reply result)
 delete_lawful g k c old new result (inl unfit) = delete_reply_lawful k c result (same_ok c k (Err stopped.Unfit) result unfit.2 tt)
 delete_lawful g k c old new result (inr (fits, inl out_of_memory)) = delete_reply_lawful k c result (same_ok c k (Err stopped.NoMemory) result out_of_memory.1 tt)
 delete_lawful g k c old new result (inr (fits, inr gone)) =
     delete_reply_lawful k c result (follows_ok c k gone.mid new result (RemovesOver g k c gone.mid new result) gone.found (got_own g k old gone.mid gone.found gone.got) (λ o own next. gone_ok g k c gone.mid new result o own next) gone.next)
+
+---- batches
+
+-- what was not met of a batch whose first put has the place n: the put of that place
+abbrev unmet_in : ℕ → List Put → BatchWritten → Type 0
+unmet_in n b AllWritten = Unit {0}
+unmet_in n b (FirstUnmet k found) = (n ≤ k) × IsSomeAnd (slice_get b (k - n)) (λ p. IsUnmet p.condition p.rec.key found)
+
+later_in : (p : Put) (ps : List Put) (n : ℕ) (w : BatchWritten) → unmet_in (n + 1) ps w → unmet_in n (p ∷ ps) w
+later_in p ps n AllWritten h = tt
+later_in p ps n (FirstUnmet k found) h = (omega (arith, h.0), subst (λ (i : ℕ). IsSomeAnd (slice_get (p ∷ ps) i) (λ (x : Put). IsUnmet x.condition x.rec.key found)) (next h.0) h.1)
+  where
+    next : n + 1 ≤ k → suc (k - (n + 1)) ≡ k - n
+    next low = omega (arith, low)
+
+first_in : (p : Put) (ps : List Put) (n : ℕ) (found : Option Record) → IsUnmet p.condition p.rec.key found → unmet_in n (p ∷ ps) (FirstUnmet n found)
+first_in p ps n found h = (omega arith, subst (λ (i : ℕ). IsSomeAnd (slice_get (p ∷ ps) i) (λ (x : Put). IsUnmet x.condition x.rec.key found)) none h)
+  where
+    none : 0 ≡ n - n
+    none = omega arith
+
+-- what follows the first put, where all puts after it are so
+module _ {S : Type 0} (p : Put) (ps : List Put) (n : ℕ) (mid new : Connected S) (result : Result BatchWritten Stopped) (More : Type 0) (rest : More → IfOk result (unmet_in (n + 1) ps)) where
+  later : (r : Result BatchWritten Stopped) → IfOk r (unmet_in (n + 1) ps) → IfOk r (unmet_in n (p ∷ ps))
+  later (Ok w) h = later_in p ps n w h
+  later (Err s) h = tt
+
+  continues_ok : (one : Result Written Stopped) → IfOk one (unmet_or p.condition p.rec.key) → Continues n mid new result More one → IfOk result (unmet_in n (p ∷ ps))
+  continues_ok (Ok Applied) ok more = later result (rest more)
+  continues_ok (Ok (NotMet found)) ok more = subst (λ (r : Result BatchWritten Stopped). IfOk r (unmet_in n (p ∷ ps))) (sym more.1) (first_in p ps n found ok)
+  continues_ok (Err s) ok more = subst (λ (r : Result BatchWritten Stopped). IfOk r (unmet_in n (p ∷ ps))) (sym more.1) tt
+
+each_ok : {S : Type 0} (g : Ghosts S) (b : List Put) (n : ℕ) (old new : Connected S) (result : Result BatchWritten Stopped) → PutsEach g n b old new result → IfOk result (unmet_in n b)
+each_ok g [] n old new result h = subst (λ (r : Result BatchWritten Stopped). IfOk r (unmet_in n [])) (sym h.1) tt
+each_ok g (p ∷ ps) n old new result h =
+    continues_ok p ps n h.0 new result (PutsEach g (n + 1) ps h.0 new result) (λ more. each_ok g ps (n + 1) h.0 new result more) h.1 (put_ok g p.rec p.condition old h.0 h.1 h.2) h.3
+
+batch_reply_lawful : (b : List Put) (result : Result BatchWritten Stopped) → IfOk result (unmet_in 1 b) → CanAnswer (PutAll b) (batch_reply result)
+batch_reply_lawful b (Ok AllWritten) h = tt
+batch_reply_lawful b (Ok (FirstUnmet k found)) h = h
+batch_reply_lawful b (Err s) h = stopped_lawful (PutAll b) s
+
+commits_ok : {S : Type 0} (g : Ghosts S) (b : List Put) (old new : Connected S) (result : Result BatchWritten Stopped) → Commits g old new result → IfOk result (unmet_in 1 b)
+commits_ok g b old new result (inl done) = subst (λ (r : Result BatchWritten Stopped). IfOk r (unmet_in 1 b)) (sym done.2) tt
+commits_ok g b old new result (inr failed) = subst (λ (r : Result BatchWritten Stopped). IfOk r (unmet_in 1 b)) (sym failed.4) tt
+
+ends_ok : {S : Type 0} (g : Ghosts S) (b : List Put) (old new : Connected S) (result written : Result BatchWritten Stopped) → IfOk written (unmet_in 1 b) → Ends g old new result written → IfOk result (unmet_in 1 b)
+ends_ok g b old new result (Ok AllWritten) ok ends = commits_ok g b old new result ends
+ends_ok g b old new result (Ok (FirstUnmet k found)) ok ends = subst (λ (r : Result BatchWritten Stopped). IfOk r (unmet_in 1 b)) (sym ends.1) ok
+ends_ok g b old new result (Err s) ok ends = subst (λ (r : Result BatchWritten Stopped). IfOk r (unmet_in 1 b)) (sym ends.1) tt
+
+pub batch_lawful : {S : Type 0} (g : Ghosts S) (b : List Put) (old new : Connected S) (result : Result BatchWritten Stopped) → PutsAll g b old new result → CanAnswer (PutAll b) (batch_reply result)
+batch_lawful g b old new result (inl refused) = batch_reply_lawful b result (subst (λ (r : Result BatchWritten Stopped). IfOk r (unmet_in 1 b)) (sym refused.2) tt)
+batch_lawful g b old new result (inr put) = batch_reply_lawful b result (ends_ok g b put.last new result put.written (each_ok g b 1 put.begun put.last put.written put.puts) put.ends)

@@ -11,6 +11,7 @@ mod Scans
 mod Edits
 mod Writes
 mod Puts
+mod Batches
 mod Making
 mod Released
 mod Stops

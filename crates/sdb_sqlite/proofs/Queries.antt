@@ -1,5 +1,5 @@
 -- What the queries show of the table, and that they leave it.
-use Rattle.std.proofs.Common.{◌≡◌, inl, inr, ℕ, ◌≤◌, List, [], ◌∷◌, map, filter, length, Bool, true, false, Some, Ok, Err, Result, refl, sym, ap, subst, ◌∙◌, IsPermutation, is_eq}
+use Rattle.std.proofs.Common.{◌≡◌, ◌⊎◌, inl, inr, ℕ, ◌≤◌, List, [], ◌∷◌, map, filter, length, Bool, true, false, Some, Ok, Err, Result, refl, sym, ap, subst, ◌∙◌, IsPermutation, is_eq}
 use Rattle.std.specs.Prelude.{bytes_eq, IsTrue, MatchResult}
 use Rattle.std.specs.List.{list_all, AllByRecursion}
 use Rattle.std.proofs.lemmas.List.Sorted.{IsPermutation-map}
@@ -26,7 +26,7 @@ use Rattle.sqlite.specs.State.{State, Shown, FailsToQuery, IsNotRun, IsUnchanged
 use Rattle.sqlite.proofs.Callers.{IsPlain}
 use Rattle.sdb_sqlite.specs.Table.{records_schema}
 use Rattle.sdb_sqlite.specs.Rows.{IsRowOfStore, rows_at}
-use Rattle.sdb_sqlite.specs.Database.{HasForm, HasTable}
+use Rattle.sdb_sqlite.specs.Database.{HasForm, HasTable, HoldsRows}
 use Rattle.sdb_sqlite.proofs.Texts.{selected}
 
 ---- what passes
@@ -105,21 +105,35 @@ undone_keeps old new it back is_open limit =
       now,
     )
 
+pub rows_held : (s : State) → HasTable s → HoldsRows s
+rows_held s it = record { schema = it.schema; rows = it.rows; numbered = it.numbered; once = it.once; unlimited = it.unlimited }
+
+-- A query of a plain text changes nothing where it is answered, and where it fails the transaction may be undone.
+module _ (text : List ℕ) (plain_text : IsPlain (understood records_schema text)) (params : Row) (old new : State) (has : old.now.schema ≡ records_schema) where
+  pub shown_same : (rows : List Row) → Shown text params old new rows → IsUnchanged old new
+  unfolding Shown
+  shown_same rows h =
+      let plain = subst IsPlain (ap (λ s. understood s text) (sym has) ∙ h.1.is) plain_text in
+      (rw plain.0 at h.2).3
+
+  pub failed_same : (e : Error) → FailsToQuery text params old new e → IsUnchanged old new ⊎ IsRolledBack old new
+  unfolding FailsToQuery IsNotRun
+  failed_same e (inl (inl h)) = inl h.1
+  failed_same e (inl (inr h)) = inr h.3
+  failed_same e (inr h) =
+      let plain = subst IsPlain (ap (λ s. understood s text) (sym has) ∙ h.1.is) plain_text in
+      inl (rw plain.0 at h.2).3
+
 -- A query of a plain text leaves what the database holds, whatever it answers.
 module _ (text : List ℕ) (plain_text : IsPlain (understood records_schema text)) (params : Row) (old new : State) (it : HasTable old) (limit : new.step_limit ≡ old.step_limit) where
   shown_keeps : (rows : List Row) → Shown text params old new rows → HasTable new × (new.now ≡ old.now)
-  unfolding Shown
-  shown_keeps rows h =
-      let plain = subst IsPlain (ap (λ s. understood s text) (sym it.schema) ∙ h.1.is) plain_text in
-      unchanged_keeps old new it (rw plain.0 at h.2).3 limit
+  shown_keeps rows h = unchanged_keeps old new it (shown_same text plain_text params old new it.schema rows h) limit
 
   failed_keeps : (e : Error) → IsTrue new.is_open → FailsToQuery text params old new e → HasTable new × (new.now ≡ old.now)
-  unfolding FailsToQuery IsNotRun
-  failed_keeps e is_open (inl (inl h)) = unchanged_keeps old new it h.1 limit
-  failed_keeps e is_open (inl (inr h)) = undone_keeps old new it h.3 is_open limit
-  failed_keeps e is_open (inr h) =
-      let plain = subst IsPlain (ap (λ s. understood s text) (sym it.schema) ∙ h.1.is) plain_text in
-      unchanged_keeps old new it (rw plain.0 at h.2).3 limit
+  failed_keeps e is_open h = elim (failed_same text plain_text params old new it.schema e h) [
+    | inl same ↦ unchanged_keeps old new it same limit
+    | inr back ↦ undone_keeps old new it back is_open limit
+  ]
 
   pub query_keeps : (answer : Result (List Row) Error) → IsTrue new.is_open → MatchResult answer (Shown text params old new) (FailsToQuery text params old new) → HasTable new × (new.now ≡ old.now)
   query_keeps (Ok rows) is_open h = shown_keeps rows h

@@ -8,7 +8,9 @@ use Rattle.sdb_types.specs.Contents.{CanAnswer}
 use Rattle.sdb_store.specs.Store.{IsStoreCall, faults_after}
 use Rattle.sdb_sqlite.specs.declared.calls.Written.{Written}
 use Rattle.sdb_sqlite.specs.declared.calls.Written.TheVariants.{Applied, NotMet}
-use Rattle.sdb_sqlite.specs.Asked.{write_reply}
+use Rattle.sdb_sqlite.specs.declared.batch.BatchWritten.{BatchWritten}
+use Rattle.sdb_sqlite.specs.declared.batch.BatchWritten.TheVariants.{AllWritten, FirstUnmet}
+use Rattle.sdb_sqlite.specs.Asked.{batch_reply, write_reply}
 use Rattle.sdb_sqlite.specs.declared.refused.Stopped.{Stopped}
 use Rattle.sdb_sqlite.specs.Stopping.{stop_reply}
 use Rattle.sdb_sqlite.specs.Database.{PerformsIn, store_state_of}
@@ -31,6 +33,10 @@ answered_call g is_known q old new r due faults now calls later is lawful cause 
 pub written_cause : (w : Written) (n : ℕ) → n ≡ faults_after (write_reply (Ok w)) n
 written_cause Applied n = refl
 written_cause (NotMet found) n = refl
+
+pub batch_cause : (w : BatchWritten) (n : ℕ) → n ≡ faults_after (batch_reply (Ok w)) n
+batch_cause AllWritten n = refl
+batch_cause (FirstUnmet k found) n = refl
 
 -- a call that stops is answered as such, and its fault is counted
 pub stopped_call : {S : Type 0} (g : Ghosts S) (is_known : Bool) (q : Request) (old new : Connected S) (s : Stopped) (r : Reply) (before now calls later : ℕ) → r ≡ stop_reply s → now ≡ faults_after r before → later ≡ next_number calls

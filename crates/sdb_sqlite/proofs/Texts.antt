@@ -1,20 +1,22 @@
 -- What the texts of the statements mean over the table of the store.
-use Rattle.std.proofs.Common.{◌≡◌, ℕ, pos, negsuc, List, [], ◌∷◌, codes, false, None, Ok, refl}
+use Rattle.std.proofs.Common.{◌≡◌, ℕ, pos, negsuc, List, [], ◌∷◌, codes, length, false, None, Ok, Err, Result, refl}
 use Rattle.sqlite.specs.declared.types.Value.TheVariants.{Null, Int}
 use Rattle.sqlite.specs.Term.{Term, lit, col, op2}
 use Rattle.sqlite.specs.Query.{Query, inner, end}
 use Rattle.sqlite.specs.Source.TheVariants.{Values}
-use Rattle.sqlite.specs.Command.TheVariants.{Insert, Update, Delete, Select, CreateTable, CreateIndex, Nothing}
+use Rattle.sqlite.specs.Command.TheVariants.{Insert, Update, Delete, Select, CreateTable, CreateIndex, Nothing, Begin, Commit, Rollback}
 use Rattle.sqlite.specs.Compile.{table_defined_by, index_defined_by}
 use Rattle.sqlite.specs.Change.{created, indexed}
 use Rattle.sqlite_sql.specs.declared.ops.BinaryOp.TheVariants.{Compare}
 use Rattle.sqlite_sql.specs.declared.ops.CompareOp.TheVariants.{Eq}
+use Rattle.sqlite_resolve.specs.declared.compiled.Compiled.{Compiled}
+use Rattle.sqlite_resolve.specs.declared.error.CompileError.{CompileError}
 use Rattle.sqlite.specs.Collation.TheVariants.{Binary}
 use Rattle.sqlite_tied.specs.Compute.{everything}
 use Rattle.sqlite.specs.Listing.{understood, reads_listing}
 use Rattle.sqlite.proofs.Callers.{IsPlain, command_of, statement_of}
 use Rattle.sdb_sqlite.specs.Table.{records, by_partition, no_schema, table_schema, records_schema}
-use Rattle.sdb_sqlite.specs.Statements.{make_table, make_index, get_body, scan_table, scan_partition, add_row, change_row, remove_row}
+use Rattle.sdb_sqlite.specs.Statements.{make_table, make_index, get_body, scan_table, scan_partition, add_row, change_row, remove_row, begin, commit, roll_back}
 
 ---- queries
 
@@ -107,6 +109,45 @@ delete_is = refl
 pub delete_plain : IsPlain (understood records_schema remove_row)
 unfolding understood everything
 delete_plain = (refl, refl)
+
+---- transactions
+
+-- the place where a compiled statement ends, and its number of parameters
+abbrev pub tail_of : Result Compiled CompileError → ℕ
+tail_of (Ok c) = c.tail
+tail_of (Err e) = 0
+
+abbrev pub names_of : Result Compiled CompileError → ℕ
+names_of (Ok c) = length c.names
+names_of (Err e) = 0
+
+pub begin_is : command_of (understood records_schema begin) ≡ Begin
+unfolding understood everything
+begin_is = refl
+
+pub begin_plain : IsPlain (understood records_schema begin)
+unfolding understood everything
+begin_plain = (refl, refl)
+
+pub commit_is : command_of (understood records_schema commit) ≡ Commit
+unfolding understood everything
+commit_is = refl
+
+pub commit_plain : IsPlain (understood records_schema commit)
+unfolding understood everything
+commit_plain = (refl, refl)
+
+pub roll_back_is : command_of (understood records_schema roll_back) ≡ Rollback
+unfolding understood everything
+roll_back_is = refl
+
+pub roll_back_plain : IsPlain (understood records_schema roll_back)
+unfolding understood everything
+roll_back_plain = (refl, refl)
+
+pub roll_back_whole : (tail_of (understood records_schema roll_back) ≡ 8) × (names_of (understood records_schema roll_back) ≡ 0)
+unfolding understood everything
+roll_back_whole = (refl, refl)
 
 ---- the making
 

@@ -32,10 +32,11 @@ use Rattle.sdb_sqlite.specs.Spans.{partition_key}
 use Rattle.sdb_sqlite.specs.Statements.{add_row, change_row, remove_row}
 use Rattle.sdb_sqlite.specs.Table.{records, records_schema}
 use Rattle.sdb_sqlite.specs.Rows.{stored, IsRowOfStore, has_key, rows_at, contents_of_rows}
-use Rattle.sdb_sqlite.specs.Database.{HasTable, contents_of_state}
+use Rattle.sdb_types.specs.Contents.{Contents}
+use Rattle.sdb_sqlite.specs.Database.{HasTable, HoldsRows, contents_of_state}
 use Rattle.sdb_sqlite.proofs.Texts.{by_k, selected, insert_terms, insert_is, insert_plain, update_shown, update_is, update_plain, delete_shown, delete_is, delete_plain}
 use Rattle.sdb_sqlite.proofs.Lists.{few_permutation, passed}
-use Rattle.sdb_sqlite.proofs.Queries.{passes, answered, unchanged_keeps, undone_keeps, observed_in}
+use Rattle.sdb_sqlite.proofs.Queries.{passes, answered, unchanged_keeps, undone_keeps, observed_in, rows_held}
 use Rattle.sdb_sqlite.proofs.Gets.{keys_passed, tied_key, of_key}
 use Rattle.sdb_sqlite.proofs.Edits.{inserted, removed, once_after, row_of, row_tied, row_key_is, row_columns_are, added_own, added_other, taken_own, taken_other, changed_own, changed_other, kept_tied, kept_table}
 
@@ -85,20 +86,40 @@ not_true false h = refl
 pub record Leaves (old new : State) (left : List Row) : Type 0 where
   pub schema : new.now.schema ≡ records_schema
   pub rows : new.now.trees 0 ≡ left
-  pub settled : new.committed ≡ new.now
-  pub mode : new.in_transaction ≡ false
+  pub committed : new.committed ≡ cond old.in_transaction old.committed new.now
+  pub mode : new.in_transaction ≡ old.in_transaction
+
+-- A write that leaves these contents: outside of a transaction it is committed.
+pub record Wrote (old new : State) (left : Contents) : Type 0 where
+  pub held : HoldsRows new
+  pub contents : contents_of_state new ≡ left
+  pub committed : new.committed ≡ cond old.in_transaction old.committed new.now
+  pub mode : new.in_transaction ≡ old.in_transaction
 
 -- what is kept then
-kept_by : (old new : State) (rows : List Row) → HasTable old → new.step_limit ≡ old.step_limit → Leaves old new rows → AllByRecursion IsRowOfStore rows → IsTable rows → ((key : Key) → length (rows_at key rows) ≤ 1) → HasTable new
-kept_by old new rows it limit h tied up once = record {
+held_by : (old new : State) (rows : List Row) → HoldsRows old → new.step_limit ≡ old.step_limit → Leaves old new rows → AllByRecursion IsRowOfStore rows → IsTable rows → ((key : Key) → length (rows_at key rows) ≤ 1) → HoldsRows new
+held_by old new rows it limit h tied up once = record {
   schema = h.schema;
   rows = subst (AllByRecursion IsRowOfStore) (sym h.rows) tied;
   numbered = subst IsTable (sym h.rows) up;
   once = subst (λ (xs : List Row). (key : Key) → length (rows_at key xs) ≤ 1) (sym h.rows) once;
-  settled = h.settled;
-  autocommit = h.mode;
   unlimited = limit ∙ it.unlimited;
 }
+
+-- outside of a transaction
+settled_by : (old new : State) (left : Contents) → HasTable old → Wrote old new left → HasTable new × (contents_of_state new ≡ left)
+settled_by old new left it w = (
+  record {
+    schema = w.held.schema;
+    rows = w.held.rows;
+    numbered = w.held.numbered;
+    once = w.held.once;
+    settled = w.committed ∙ ap (λ (b : Bool). cond b old.committed new.now) it.autocommit;
+    autocommit = w.mode ∙ it.autocommit;
+    unlimited = w.held.unlimited;
+  },
+  w.contents,
+)
 
 ---- the INSERT
 
@@ -108,7 +129,7 @@ new_row r rows = row_of (next_rowid rows) r
 abbrev insert_params : Record → Row
 insert_params r = Blob (key_bytes r.key) ∷ Text (table_text r.key.table) ∷ Blob (key_bytes (partition_key r.key.table r.key.partition)) ∷ Blob (record_bytes r) ∷ []
 
-adds : (old new : State) (r : Record) (count : ℕ) → HasTable old → Executes add_row (insert_params r) old new (Ok count)
+adds : (old new : State) (r : Record) (count : ℕ) → HoldsRows old → Executes add_row (insert_params r) old new (Ok count)
     → Leaves old new (put_row (new_row r (old.now.trees 0)) (old.now.trees 0)) × (is_taken (old.now.trees 0) (new_row r (old.now.trees 0)) ≡ false)
 adds old new r count it h =
     let params = insert_params r in
@@ -131,26 +152,33 @@ adds old new r count it h =
       record {
         schema = ap (λ (d : Database). d.schema) now;
         rows = ap (λ (d : Database). d.trees 0) now ∙ ap (λ (t : Trees). t 0) trees ∙ step.rows ∙ rows;
-        settled = rw (it.autocommit) at w.shown.committed_is;
-        mode = w.shown.mode ∙ it.autocommit;
+        committed = w.shown.committed_is;
+        mode = w.shown.mode;
       },
       not_true _ fresh,
     )
 
 -- An INSERT of a record leaves the map with the record, where it had none of its key.
-pub insert_told : (old new : State) (r : Record) (count : ℕ) → HasTable old → record_fits r → RecordIsEncodable r → new.step_limit ≡ old.step_limit → rows_at r.key (old.now.trees 0) ≡ [] → Executes add_row (insert_params r) old new (Ok count)
-    → HasTable new × (contents_of_state new ≡ insert (contents_of_state old) r.key r.columns)
-insert_told old new r count it known fits limit none h =
+pub insert_wrote : (old new : State) (r : Record) (count : ℕ) → HoldsRows old → record_fits r → RecordIsEncodable r → new.step_limit ≡ old.step_limit → rows_at r.key (old.now.trees 0) ≡ [] → Executes add_row (insert_params r) old new (Ok count)
+    → Wrote old new (insert (contents_of_state old) r.key r.columns)
+insert_wrote old new r count it known fits limit none h =
     let rows = old.now.trees 0 in
     let x = new_row r rows in
     let id = next_rowid rows in
     let a = adds old new r count it h in
     let is = row_key_is id r known fits in
     let own = added_own rows x r.key is none a.1 in
-    let other = added_other rows x r.key is none a.1 in (
-      kept_by old new (put_row x rows) it limit a.0 (all-put_row IsRowOfStore x rows (row_tied id r known fits) it.rows) (IsTable-put_row x rows it.numbered) (once_after rows (put_row x rows) x (x ∷ []) (omega arith) it.once own other),
-      ap contents_of_rows a.0.rows ∙ inserted rows (put_row x rows) x own other ∙ (λ i. insert (contents_of_state old) (is i) (row_columns_are id r known fits i)),
-    )
+    let other = added_other rows x r.key is none a.1 in
+    record {
+      held = held_by old new (put_row x rows) it limit a.0 (all-put_row IsRowOfStore x rows (row_tied id r known fits) it.rows) (IsTable-put_row x rows it.numbered) (once_after rows (put_row x rows) x (x ∷ []) (omega arith) it.once own other);
+      contents = ap contents_of_rows a.0.rows ∙ inserted rows (put_row x rows) x own other ∙ (λ i. insert (contents_of_state old) (is i) (row_columns_are id r known fits i));
+      committed = a.0.committed;
+      mode = a.0.mode;
+    }
+
+pub insert_told : (old new : State) (r : Record) (count : ℕ) → HasTable old → record_fits r → RecordIsEncodable r → new.step_limit ≡ old.step_limit → rows_at r.key (old.now.trees 0) ≡ [] → Executes add_row (insert_params r) old new (Ok count)
+    → HasTable new × (contents_of_state new ≡ insert (contents_of_state old) r.key r.columns)
+insert_told old new r count it known fits limit none h = settled_by old new _ it (insert_wrote old new r count (rows_held old it) known fits limit none h)
 
 ---- the one row that a query by key shows
 
@@ -163,7 +191,7 @@ one_shown db shown q others y rows known fits tied one h =
 
 ---- the UPDATE
 
-updates : (old new : State) (q : Key) (id : ℤ) (t p b c : List ℕ) (count : ℕ) → HasTable old → key_fits q → KeyIsEncodable q → rows_at q (old.now.trees 0) ≡ stored id (key_bytes q) t p b ∷ [] → Executes change_row (Blob (key_bytes q) ∷ Blob c ∷ []) old new (Ok count)
+updates : (old new : State) (q : Key) (id : ℤ) (t p b c : List ℕ) (count : ℕ) → HoldsRows old → key_fits q → KeyIsEncodable q → rows_at q (old.now.trees 0) ≡ stored id (key_bytes q) t p b ∷ [] → Executes change_row (Blob (key_bytes q) ∷ Blob c ∷ []) old new (Ok count)
     → Leaves old new (put_row (stored id (key_bytes q) t p c) (without_rowid id (old.now.trees 0)))
 updates old new q id t p b c count it known fits one h =
     let k = key_bytes q in
@@ -184,8 +212,8 @@ updates old new q id t p b c count it known fits one h =
     record {
       schema = ap (λ (d : Database). d.schema) now;
       rows = ap (λ (d : Database). d.trees 0) now ∙ ap (λ (s : Trees). s 0) trees ∙ step.rows ∙ made;
-      settled = rw (it.autocommit) at w.shown.committed_is;
-      mode = w.shown.mode ∙ it.autocommit;
+      committed = w.shown.committed_is;
+      mode = w.shown.mode;
     }
 
 -- the row of a key is one that the store writes
@@ -200,9 +228,9 @@ the_row q rows y tied one =
     (it, both.0.1, it.is ∙ ap (λ (k : Key). body_row it.id k it.body) same)
 
 -- An UPDATE of a record's row leaves the map with the record.
-pub update_told : (old new : State) (r : Record) (y : Row) (count : ℕ) → HasTable old → record_fits r → RecordIsEncodable r → new.step_limit ≡ old.step_limit → rows_at r.key (old.now.trees 0) ≡ y ∷ []
-    → Executes change_row (Blob (key_bytes r.key) ∷ Blob (record_bytes r) ∷ []) old new (Ok count) → HasTable new × (contents_of_state new ≡ insert (contents_of_state old) r.key r.columns)
-update_told old new r y count it known fits limit one h =
+pub update_wrote : (old new : State) (r : Record) (y : Row) (count : ℕ) → HoldsRows old → record_fits r → RecordIsEncodable r → new.step_limit ≡ old.step_limit → rows_at r.key (old.now.trees 0) ≡ y ∷ []
+    → Executes change_row (Blob (key_bytes r.key) ∷ Blob (record_bytes r) ∷ []) old new (Ok count) → Wrote old new (insert (contents_of_state old) r.key r.columns)
+update_wrote old new r y count it known fits limit one h =
     let rows = old.now.trees 0 in
     let there = the_row r.key rows y it.rows one in
     let id = there.0.id in
@@ -214,14 +242,21 @@ update_told old new r y count it known fits limit one h =
     let is = row_key_is id r known fits in
     let own = changed_own rows it.numbered r.key z id refl of_z one_z x refl is in
     let other = changed_other rows it.numbered r.key z id refl of_z one_z x refl is in
-    let news = put_row x (without_rowid id rows) in (
-      kept_by old new news it limit a (all-put_row IsRowOfStore x (without_rowid id rows) (row_tied id r known fits) (kept_tied id rows it.rows)) (IsTable-put_row x (without_rowid id rows) (kept_table id rows it.numbered)) (once_after rows news x (x ∷ []) (omega arith) it.once own other),
-      ap contents_of_rows a.rows ∙ inserted rows news x own other ∙ (λ i. insert (contents_of_state old) (is i) (row_columns_are id r known fits i)),
-    )
+    let news = put_row x (without_rowid id rows) in
+    record {
+      held = held_by old new news it limit a (all-put_row IsRowOfStore x (without_rowid id rows) (row_tied id r known fits) (kept_tied id rows it.rows)) (IsTable-put_row x (without_rowid id rows) (kept_table id rows it.numbered)) (once_after rows news x (x ∷ []) (omega arith) it.once own other);
+      contents = ap contents_of_rows a.rows ∙ inserted rows news x own other ∙ (λ i. insert (contents_of_state old) (is i) (row_columns_are id r known fits i));
+      committed = a.committed;
+      mode = a.mode;
+    }
+
+pub update_told : (old new : State) (r : Record) (y : Row) (count : ℕ) → HasTable old → record_fits r → RecordIsEncodable r → new.step_limit ≡ old.step_limit → rows_at r.key (old.now.trees 0) ≡ y ∷ []
+    → Executes change_row (Blob (key_bytes r.key) ∷ Blob (record_bytes r) ∷ []) old new (Ok count) → HasTable new × (contents_of_state new ≡ insert (contents_of_state old) r.key r.columns)
+update_told old new r y count it known fits limit one h = settled_by old new _ it (update_wrote old new r y count (rows_held old it) known fits limit one h)
 
 ---- the DELETE
 
-deletes : (old new : State) (q : Key) (id : ℤ) (t p b : List ℕ) (count : ℕ) → HasTable old → key_fits q → KeyIsEncodable q → rows_at q (old.now.trees 0) ≡ stored id (key_bytes q) t p b ∷ [] → Executes remove_row (Blob (key_bytes q) ∷ []) old new (Ok count)
+deletes : (old new : State) (q : Key) (id : ℤ) (t p b : List ℕ) (count : ℕ) → HoldsRows old → key_fits q → KeyIsEncodable q → rows_at q (old.now.trees 0) ≡ stored id (key_bytes q) t p b ∷ [] → Executes remove_row (Blob (key_bytes q) ∷ []) old new (Ok count)
     → Leaves old new (without_rowid id (old.now.trees 0))
 deletes old new q id t p b count it known fits one h =
     let k = key_bytes q in
@@ -242,14 +277,14 @@ deletes old new q id t p b count it known fits one h =
     record {
       schema = ap (λ (d : Database). d.schema) now;
       rows = ap (λ (d : Database). d.trees 0) now ∙ ap (λ (s : Trees). s 0) trees ∙ step.rows ∙ made;
-      settled = rw (it.autocommit) at w.shown.committed_is;
-      mode = w.shown.mode ∙ it.autocommit;
+      committed = w.shown.committed_is;
+      mode = w.shown.mode;
     }
 
 -- A DELETE of a key's row leaves the map without the key.
-pub delete_told : (old new : State) (q : Key) (y : Row) (count : ℕ) → HasTable old → key_fits q → KeyIsEncodable q → new.step_limit ≡ old.step_limit → rows_at q (old.now.trees 0) ≡ y ∷ [] → Executes remove_row (Blob (key_bytes q) ∷ []) old new (Ok count)
-    → HasTable new × (contents_of_state new ≡ remove (contents_of_state old) q)
-delete_told old new q y count it known fits limit one h =
+delete_wrote : (old new : State) (q : Key) (y : Row) (count : ℕ) → HoldsRows old → key_fits q → KeyIsEncodable q → new.step_limit ≡ old.step_limit → rows_at q (old.now.trees 0) ≡ y ∷ [] → Executes remove_row (Blob (key_bytes q) ∷ []) old new (Ok count)
+    → Wrote old new (remove (contents_of_state old) q)
+delete_wrote old new q y count it known fits limit one h =
     let rows = old.now.trees 0 in
     let there = the_row q rows y it.rows one in
     let id = there.0.id in
@@ -259,7 +294,14 @@ delete_told old new q y count it known fits limit one h =
     let a = deletes old new q id _ _ there.0.body count it known fits one_z h in
     let own = taken_own rows it.numbered q z id refl of_z one_z in
     let other = taken_other rows it.numbered q z id refl of_z one_z in
-    let news = without_rowid id rows in (
-      kept_by old new news it limit a (kept_tied id rows it.rows) (kept_table id rows it.numbered) (once_after rows news z [] (omega arith) it.once own other),
-      ap contents_of_rows a.rows ∙ removed rows news z own other ∙ ap (remove (contents_of_state old)) (sym (of_key q z of_z)),
-    )
+    let news = without_rowid id rows in
+    record {
+      held = held_by old new news it limit a (kept_tied id rows it.rows) (kept_table id rows it.numbered) (once_after rows news z [] (omega arith) it.once own other);
+      contents = ap contents_of_rows a.rows ∙ removed rows news z own other ∙ ap (remove (contents_of_state old)) (sym (of_key q z of_z));
+      committed = a.committed;
+      mode = a.mode;
+    }
+
+pub delete_told : (old new : State) (q : Key) (y : Row) (count : ℕ) → HasTable old → key_fits q → KeyIsEncodable q → new.step_limit ≡ old.step_limit → rows_at q (old.now.trees 0) ≡ y ∷ [] → Executes remove_row (Blob (key_bytes q) ∷ []) old new (Ok count)
+    → HasTable new × (contents_of_state new ≡ remove (contents_of_state old) q)
+delete_told old new q y count it known fits limit one h = settled_by old new _ it (delete_wrote old new q y count (rows_held old it) known fits limit one h)

@@ -1,7 +1,7 @@
 -- What the statements of each call are asked, and what comes of their answers.
-use Rattle.std.specs.Prelude.{◌≡◌, ◌⊎◌, ℕ, true, false, if◌then◌else◌, List, [], ◌∷◌, Option, Some, None, Result, Ok, Err, Vec, MatchResult}
+use Rattle.std.specs.Prelude.{◌≡◌, ◌⊎◌, ℕ, ◌+◌, true, false, if◌then◌else◌, List, [], ◌∷◌, Option, Some, None, Result, Ok, Err, Vec, MatchResult}
 use Rattle.std.specs.List.Sorted.{IsPermutation}
-use Rattle.sdb_sqlite.specs.Types.{Condition, Error, Global, Key, Record, Reply, Span, TableName}
+use Rattle.sdb_sqlite.specs.Types.{Condition, Error, Global, Key, Put, Record, Reply, Span, TableName}
 use Rattle.sqlite.specs.declared.types.Value.TheVariants.{Text, Blob}
 use Rattle.sqlite.specs.declared.rows.Row as row
 use Rattle.sqlite.specs.Order.{Row, column}
@@ -16,12 +16,14 @@ use Rattle.sdb_codec.specs.Spelling.{key_bytes, record_bytes, KeyIsEncodable, Re
 use Rattle.sdb_codec.specs.Reading.{key_in}
 use Rattle.sdb_sqlite.specs.declared.calls.Written.{Written}
 use Rattle.sdb_sqlite.specs.declared.calls.Written.TheVariants.{Applied, NotMet}
+use Rattle.sdb_sqlite.specs.declared.batch.BatchWritten.{BatchWritten}
+use Rattle.sdb_sqlite.specs.declared.batch.BatchWritten.TheVariants.{AllWritten, FirstUnmet}
 use Rattle.sdb_sqlite.specs.declared.refused.Stopped.{Stopped}
 use Rattle.sdb_sqlite.specs.declared.refused.Stopped.TheVariants as stopped
 use Rattle.sdb_sqlite.specs.Stopping.{stopped_by, stop_reply}
 use Rattle.sdb_sqlite.specs.Spans.{partition_key, SpanIsEncodable}
 use Rattle.sdb_sqlite.specs.Rows.{blob_of, record_of_body}
-use Rattle.sdb_sqlite.specs.Statements.{get_body, scan_table, scan_partition, add_row, change_row, remove_row}
+use Rattle.sdb_sqlite.specs.Statements.{get_body, scan_table, scan_partition, add_row, change_row, remove_row, begin, commit, roll_back}
 
 -- The query was asked with these parameters and answered so, where the disk returned what was written; nothing else was asked
 -- between.
@@ -206,6 +208,49 @@ Puts g r condition old new result = IsUnfit (RecordIsEncodable r) old new result
 abbrev pub Removes : {S : Type 0} → Ghosts S → Key → Condition → Connected S → Connected S → Result Written Stopped → Type 0
 Removes g key condition old new result = IsUnfit (KeyIsEncodable key) old new result ⊎ (KeyIsEncodable key × (IsOutOfMemory old new result ⊎ IsRemoved g key condition old new result))
 
+---- a batch
+
+-- what follows a put of a batch: the other puts, where it is applied
+abbrev pub Continues : {S : Type 0} → ℕ → Connected S → Connected S → Result BatchWritten Stopped → Type 0 → Result Written Stopped → Type 0
+Continues n mid new result More (Ok Applied) = More
+Continues n mid new result More (Ok (NotMet found)) = (new ≡ mid) × (result ≡ Ok (FirstUnmet n found))
+Continues n mid new result More (Err s) = (new ≡ mid) × (result ≡ Err s)
+
+-- The puts are made one after another, up to the first that is not applied; the first of them has the place n.
+abbrev pub PutsEach : {S : Type 0} → Ghosts S → ℕ → List Put → Connected S → Connected S → Result BatchWritten Stopped → Type 0
+PutsEach g n [] old new result = (new ≡ old) × (result ≡ Ok AllWritten)
+PutsEach {S} g n (p ∷ ps) old new result =
+    (mid : Connected S) × (one : Result Written Stopped) × Puts g p.rec p.condition old mid one × Continues n mid new result (PutsEach g (n + 1) ps mid new result) one
+
+-- a transaction is rolled back, whatever comes of that
+abbrev pub RollsBack : {S : Type 0} → Ghosts S → Connected S → Connected S → Type 0
+RollsBack g old new = (answer : Result ℕ Error) × Ran g roll_back [] old new answer
+
+-- a transaction is committed, and rolled back where that is refused
+abbrev pub Commits : {S : Type 0} → Ghosts S → Connected S → Connected S → Result BatchWritten Stopped → Type 0
+Commits {S} g old new result =
+    ((count : ℕ) × Ran g commit [] old new (Ok count) × (result ≡ Ok AllWritten))
+    ⊎ ((e : Error) × (mid : Connected S) × Ran g commit [] old mid (Err e) × RollsBack g mid new × (result ≡ Err (stopped_by e)))
+
+-- how the transaction of a batch ends, by what became of the puts
+abbrev pub Ends : {S : Type 0} → Ghosts S → Connected S → Connected S → Result BatchWritten Stopped → Result BatchWritten Stopped → Type 0
+Ends g old new result (Ok AllWritten) = Commits g old new result
+Ends g old new result (Ok (FirstUnmet k found)) = RollsBack g old new × (result ≡ Ok (FirstUnmet k found))
+Ends g old new result (Err s) = RollsBack g old new × (result ≡ Err s)
+
+pub record IsBatchPut {S : Type 0} (g : Ghosts S) (b : List Put) (old new : Connected S) (result : Result BatchWritten Stopped) : Type 0 where
+  pub count : ℕ
+  pub begun : Connected S
+  pub begins : Ran g begin [] old begun (Ok count)
+  pub last : Connected S
+  pub written : Result BatchWritten Stopped
+  pub puts : PutsEach g 1 b begun last written
+  pub ends : Ends g last new result written
+
+-- A batch is put in one transaction, which is committed where each put is applied, and otherwise rolled back.
+abbrev pub PutsAll : {S : Type 0} → Ghosts S → List Put → Connected S → Connected S → Result BatchWritten Stopped → Type 0
+PutsAll g b old new result = ((e : Error) × Ran g begin [] old new (Err e) × (result ≡ Err (stopped_by e))) ⊎ IsBatchPut g b old new result
+
 ---- the reply of a call
 
 abbrev pub got_reply : Result (Option Record) Stopped → Reply
@@ -220,6 +265,11 @@ abbrev pub write_reply : Result Written Stopped → Reply
 write_reply (Ok Applied) = reply.Applied
 write_reply (Ok (NotMet found)) = reply.NotMet found
 write_reply (Err s) = stop_reply s
+
+abbrev pub batch_reply : Result BatchWritten Stopped → Reply
+batch_reply (Ok AllWritten) = reply.Applied
+batch_reply (Ok (FirstUnmet k found)) = reply.NotAll k found
+batch_reply (Err s) = stop_reply s
 
 -- what became of a call is that, and the reply is the one to that
 abbrev pub IsAnswered : {X : Type 0} → (X → Reply) → (X → Type 0) → Reply → Type 0

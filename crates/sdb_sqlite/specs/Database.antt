@@ -24,6 +24,14 @@ pub record HasForm (form : Schema) (s : State) : Type 0 where
   pub autocommit : s.in_transaction ≡ false
   pub unlimited : s.step_limit ≡ None
 
+-- The table with its index, as a transaction sees it or as it is outside of one: each row is one that the store writes.
+pub record HoldsRows (s : State) : Type 0 where
+  pub schema : s.now.schema ≡ records_schema
+  pub rows : AllByRecursion IsRowOfStore (s.now.trees 0)
+  pub numbered : IsTable (s.now.trees 0)
+  pub once : (key : Key) → length (rows_at key (s.now.trees 0)) ≤ 1
+  pub unlimited : s.step_limit ≡ None
+
 -- the table with its index
 abbrev pub HasTable : State → Type 0
 HasTable = HasForm records_schema

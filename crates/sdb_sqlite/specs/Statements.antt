@@ -24,3 +24,12 @@ change_row = codes "UPDATE records SET r = ?2 WHERE k = ?1"
 
 abbrev pub remove_row : List ℕ
 remove_row = codes "DELETE FROM records WHERE k = ?1"
+
+abbrev pub begin : List ℕ
+begin = codes "BEGIN"
+
+abbrev pub commit : List ℕ
+commit = codes "COMMIT"
+
+abbrev pub roll_back : List ℕ
+roll_back = codes "ROLLBACK"

@@ -1,23 +1,25 @@
 //! The store.
 ghost use Rattle.std.specs.Prelude.{◌≡◌, ◌⊎◌, Ok, IfOk, IfErr};
 ghost use Rattle.sqlite.specs.Steps.{over_memory};
-ghost use Rattle.sdb_types.specs.declared.record.Request.TheVariants.{Get, Scan, PutIf, DeleteIf};
+ghost use Rattle.sdb_types.specs.Contents.{IsBatch};
+ghost use Rattle.sdb_types.specs.declared.record.Request.TheVariants.{Get, Scan, PutIf, DeleteIf, PutAll};
 ghost use Rattle.sdb_codec.specs.Spelling.{KeyIsEncodable, RecordIsEncodable};
 ghost use Rattle.sdb_store.specs.Store.{IsNewStore, IsStoreCall};
 ghost use Rattle.sdb_sqlite.specs.Spans.{SpanIsEncodable};
 ghost use Rattle.sdb_sqlite.specs.Database.{IsNewDatabase, IsStoreOn, store_state_of};
 ghost use Rattle.sdb_sqlite.specs.Released.{IsReleased};
 ghost use Rattle.sdb_sqlite.specs.Making.{IsMade, IsNotMade, IsRefusedIn, refused_by};
-ghost use Rattle.sdb_sqlite.specs.Asked.{Gets, Scans, Puts, Removes, IsAnswered, got_reply, rows_reply, write_reply};
+ghost use Rattle.sdb_sqlite.specs.Asked.{Gets, Scans, Puts, PutsAll, Removes, IsAnswered, batch_reply, got_reply, rows_reply, write_reply};
 ghost use Rattle.sdb_sqlite.specs.Stopping.{stopped_by};
 
+use crate::batch::{BatchWritten, put_all};
 use crate::calls::{Written, delete, find, list, put};
 use crate::facts::span_facts;
 use crate::held::Held;
 use crate::refused::{KeptRefused, one_more, stop};
 use crate::statements::make_table;
 use sdb_store::Store;
-use sdb_types::{Condition, Key, Record, Reply, Span, key_facts, record_facts};
+use sdb_types::{Batch, Condition, Key, Record, Reply, Span, batch_facts, key_facts, record_facts};
 use sqlite::{Connection, Error, ErrorCode, MemStore};
 use std::alloc::Global;
 
@@ -25,7 +27,7 @@ use std::alloc::Global;
 ///
 /// A row has the bytes of a key, the table's name, the bytes of the key's partition, and the bytes of the record. A row
 /// whose body spells no record of its key means a record without columns. An index by the table's name and the partition
-/// finds the rows of a scan. A call that changes anything changes it in one statement.
+/// finds the rows of a scan. A call that changes anything changes it in one statement, and a batch in one transaction.
 pub struct Kept<S: Held + Drop> {
     alloc: Global,
     connection: Connection<S>,
@@ -114,6 +116,15 @@ fn reply_of(written: Written) -> Reply
     }
 }
 
+fn reply_of_batch(written: BatchWritten) -> Reply
+    ensures { result ≡ batch_reply (Ok written) }
+{
+    match written {
+        BatchWritten::AllWritten => Reply::Applied,
+        BatchWritten::FirstUnmet(place, found) => Reply::NotAll(place, found),
+    }
+}
+
 impl<S: Held + Drop> Store for Kept<S> {
     // In memory its contents are known, where the database has its table and index and nothing else.
     ghost state = { λ kept. store_state_of S.Store S.Held.is_known kept.connection kept.faults kept.calls };
@@ -166,6 +177,19 @@ impl<S: Held + Drop> Store for Kept<S> {
         self.calls = one_more(self.calls);
         match delete(self.alloc, &mut self.connection, key, condition) {
             Ok(written) => reply_of(written),
+            Err(stopped) => stop(&mut self.faults, stopped),
+        }
+    }
+
+    fn put_all(&mut self, batch: &Batch) -> Reply
+        requires { IsBatch batch.now }
+        ensures called { IsStoreCall (PutAll batch.now) result (⟦<Kept<S> as Store>⟧.state self.old) (⟦<Kept<S> as Store>⟧.state self.new) }
+        ensures asked { IsAnswered batch_reply (PutsAll S.Store batch.now self.old.connection self.new.connection) result }
+    {
+        batch_facts(batch);
+        self.calls = one_more(self.calls);
+        match put_all(self.alloc, &mut self.connection, batch) {
+            Ok(written) => reply_of_batch(written),
             Err(stopped) => stop(&mut self.faults, stopped),
         }
     }

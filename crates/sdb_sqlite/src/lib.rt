@@ -1,6 +1,7 @@
 //! A store of records that keeps them in one table of an SQLite database.
 #![tactic(auto)]
 
+mod batch;
 mod body;
 mod calls;
 mod facts;

@@ -86,3 +86,24 @@ pub fn remove_row<S: Held>(connection: &mut Connection<S>, key: &[u8]) -> Result
 {
     connection.execute("DELETE FROM records WHERE k = ?1", params![key])
 }
+
+/// Begins a transaction.
+pub fn begin<S: Held>(connection: &mut Connection<S>) -> Result<usize, Error>
+    ensures { Ran S.Store text.begin [] connection.old connection.new result }
+{
+    connection.execute("BEGIN", &[])
+}
+
+/// Makes what was written in a transaction last.
+pub fn commit<S: Held>(connection: &mut Connection<S>) -> Result<usize, Error>
+    ensures { Ran S.Store text.commit [] connection.old connection.new result }
+{
+    connection.execute("COMMIT", &[])
+}
+
+/// Takes back what was written in a transaction.
+pub fn roll_back<S: Held>(connection: &mut Connection<S>) -> Result<usize, Error>
+    ensures { Ran S.Store text.roll_back [] connection.old connection.new result }
+{
+    connection.execute("ROLLBACK", &[])
+}

@@ -29,3 +29,4 @@ faults_grown (reply.Found found) n = omega arith
 faults_grown (reply.Rows rows) n = omega arith
 faults_grown reply.Applied n = omega arith
 faults_grown (reply.NotMet found) n = omega arith
+faults_grown (reply.NotAll k found) n = omega arith

@@ -11,11 +11,12 @@ use Rattle.sdb_types.specs.declared.key.Key.{Key}
 use Rattle.sdb_types.specs.declared.pair.Pair.{Pair}
 use Rattle.sdb_types.specs.declared.record.Span.{Span}
 use Rattle.sdb_types.specs.declared.record.Condition.{Condition}
+use Rattle.sdb_types.specs.declared.record.Put.{Put}
 use Rattle.sdb_types.specs.declared.record.Request.{Request}
 use Rattle.sdb_types.specs.declared.record.Request.TheVariants as ask
 use Rattle.sdb_types.specs.declared.record.Reply.TheVariants as reply
 use Rattle.sdb_types.specs.Contents.{Contents, record_of, record_at, in_span, rows_among, rows_in, holds, put_reply, reply_to, CanAnswer, starts_after, rise, are_rows_of, IsUnmet}
-use Rattle.sdb_types.proofs.Public.{second_t as right}
+use Rattle.sdb_types.proofs.Public.{batch_can, second_t as right}
 
 left : (a b : Bool) → T (a && b) → a ≡ true
 left true b h = refl
@@ -60,9 +61,13 @@ put_lawful q condition key m applied unmet =
       | false ↦ λ p. unmet (at_key key (get m key), p)
     ] refl
 
+pub batch_lawful : (b : List Put) (m : Contents) → CanAnswer (ask.PutAll b) (reply_to (ask.PutAll b) m)
+batch_lawful b m = batch_can b m
+
 -- the map's reply is one that any store may give
 pub reply_lawful : (q : Request) (m : Contents) → CanAnswer q (reply_to q m)
 reply_lawful (ask.Get key) m = at_key key (get m key)
 reply_lawful (ask.Scan span) m = rows_lawful span m
 reply_lawful (ask.PutIf r condition) m = put_lawful (ask.PutIf r condition) condition r.key m tt (λ h. h)
 reply_lawful (ask.DeleteIf key condition) m = put_lawful (ask.DeleteIf key condition) condition key m tt (λ h. h)
+reply_lawful (ask.PutAll b) m = batch_lawful b m

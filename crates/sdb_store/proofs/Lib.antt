@@ -1,4 +1,5 @@
 mod Texts
 mod Lawful
 mod Counts
+mod Batches
 pub mod Public

@@ -26,6 +26,7 @@ Performs q (reply.Found found) old new = Answers q (reply.Found found) old new
 Performs q (reply.Rows rows) old new = Answers q (reply.Rows rows) old new
 Performs q reply.Applied old new = Answers q reply.Applied old new
 Performs q (reply.NotMet found) old new = Answers q (reply.NotMet found) old new
+Performs q (reply.NotAll k found) old new = Answers q (reply.NotAll k found) old new
 
 -- how many calls have failed after one that is answered so: one more where that is a fault, as far as a count of 64 bits goes, and
 -- else as many as before
@@ -36,6 +37,7 @@ faults_after (reply.Found found) faults = faults
 faults_after (reply.Rows rows) faults = faults
 faults_after reply.Applied faults = faults
 faults_after (reply.NotMet found) faults = faults
+faults_after (reply.NotAll k found) faults = faults
 
 -- What a store shows: whether its contents are known, what it then holds, how many calls have failed, and how many were made.
 pub record StoreState : Type 1 where

@@ -1,6 +1,7 @@
 //! A store of records: what each of its calls means, and what the stores in memory share.
 #![tactic(auto)]
 
+mod batch;
 mod condition;
 mod fail;
 mod memory;

@@ -1,14 +1,16 @@
 //! A store that keeps its records in memory, and whose calls fail as listed.
 ghost use Rattle.std.specs.Prelude.{◌≡◌, IfOk, MatchResult};
 ghost use Rattle.std.specs.FinMap as map;
-ghost use Rattle.sdb_types.specs.declared.record.Request.TheVariants.{Get, Scan, PutIf, DeleteIf};
+ghost use Rattle.sdb_types.specs.declared.record.Request.TheVariants.{Get, Scan, PutIf, DeleteIf, PutAll};
+ghost use Rattle.sdb_types.specs.Contents.{IsBatch};
 ghost use Rattle.sdb_store.specs.Store.{Answers, IsStoreCall};
 ghost use Rattle.sdb_store.specs.FaultPlans.{Serves, memory_state};
 
+use crate::batch::put_all;
 use crate::fail::{Calls, Fails, FaultPlan};
 use crate::rows::Rows;
 use crate::store::Store;
-use sdb_types::{Condition, Key, NoMemory, Record, Reply, Span};
+use sdb_types::{Batch, Condition, Key, NoMemory, Record, Reply, Span};
 use std::alloc::Global;
 use std::marker::Model;
 
@@ -123,6 +125,19 @@ impl<R: Rows> Store for Memory<R> {
             FaultPlan::Answers => reply_of(self.rows.delete(key, condition)),
             FaultPlan::FailsBefore => self.calls.fail(),
             FaultPlan::FailsAfter => self.calls.fail_after(self.rows.delete(key, condition)),
+        }
+    }
+
+    #[tactic(auto, using(crate::proofs::Lawful::batch_lawful))]
+    fn put_all(&mut self, batch: &Batch) -> Reply
+        requires { IsBatch batch.now }
+        ensures called { IsStoreCall (PutAll batch.now) result (memory_state self.old) (memory_state self.new) }
+        ensures exact { Serves (PutAll batch.now) result self.old self.new }
+    {
+        match self.calls.next() {
+            FaultPlan::Answers => reply_of(put_all(&mut self.rows, batch)),
+            FaultPlan::FailsBefore => self.calls.fail(),
+            FaultPlan::FailsAfter => self.calls.fail_after(put_all(&mut self.rows, batch)),
         }
     }
 }

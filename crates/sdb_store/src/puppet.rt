@@ -1,13 +1,13 @@
 //! A store that answers with the replies of a list.
 ghost use Rattle.std.specs.Prelude.{◌≡◌, ◌∷◌, [], drop, if◌then◌else◌};
-ghost use Rattle.sdb_types.specs.declared.record.Request.TheVariants.{Get, Scan, PutIf, DeleteIf};
+ghost use Rattle.sdb_types.specs.declared.record.Request.TheVariants.{Get, Scan, PutIf, DeleteIf, PutAll};
 ghost use Rattle.sdb_types.specs.Draws.{counted as next_number};
 ghost use Rattle.sdb_store.specs.Puppets.{AnswersNext, first_or_fault, puppet_state};
 ghost use Rattle.sdb_store.specs.Store.{IsStoreCall, faults_after};
 
-use crate::replies::{can_get, can_scan, can_write};
+use crate::replies::{can_get, can_put_all, can_scan, can_write};
 use crate::store::Store;
-use sdb_types::{Condition, Key, Record, Reply, Seq, Span};
+use sdb_types::{Batch, Condition, Key, Record, Reply, Seq, Span};
 use std::marker::Model;
 use std::vec::IntoIter;
 
@@ -128,6 +128,15 @@ impl Store for Puppet {
     {
         let reply = self.next();
         let may = can_write(key, condition, &reply);
+        self.count(given(reply, may))
+    }
+
+    fn put_all(&mut self, batch: &Batch) -> Reply
+        ensures called { IsStoreCall (PutAll batch.now) result (puppet_state self.old) (puppet_state self.new) }
+        ensures exact { AnswersNext (PutAll batch.now) result self.old self.new }
+    {
+        let reply = self.next();
+        let may = can_put_all(batch, &reply);
         self.count(given(reply, may))
     }
 }

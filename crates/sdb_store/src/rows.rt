@@ -3,6 +3,7 @@ ghost use Rattle.std.specs.Prelude.{◌≡◌, IfOk, OnOk, OnErr};
 ghost use Rattle.std.specs.FinMap as map;
 ghost use Rattle.sdb_types.specs.declared.record.Request.TheVariants.{PutIf, DeleteIf};
 ghost use Rattle.sdb_types.specs.Contents.{Contents, record_at, rows_in};
+ghost use Rattle.sdb_store.specs.Batches.{replaced};
 ghost use Rattle.sdb_store.specs.Store.{Answers, unmet_reply};
 
 use crate::condition::holds;
@@ -42,10 +43,13 @@ pub trait Rows: Drop {
         ensures ok { OnOk result (contents self.new ≡ map.insert (contents self.old) rec.key rec.columns) }
         ensures err { OnErr result (contents self.new ≡ contents self.old) };
 
-    /// Takes the record at a key out, if there is one.
-    fn remove(&mut self, key: &Key) -> Result<(), NoMemory>
-        ensures ok { OnOk result (contents self.new ≡ map.remove (contents self.old) key.now) }
-        ensures err { OnErr result (contents self.new ≡ contents self.old) };
+    /// Puts a record over the one at its key, if there is one. Takes no memory.
+    fn replace(&mut self, rec: Record)
+        ensures { contents self.new ≡ replaced rec (contents self.old) };
+
+    /// Takes the record at a key out, if there is one. Takes no memory.
+    fn remove(&mut self, key: &Key)
+        ensures { contents self.new ≡ map.remove (contents self.old) key.now };
 
     /// Puts a record at its key, where the condition holds of what is there.
     fn put(&mut self, rec: &Record, condition: &Condition) -> Result<Reply, NoMemory>
@@ -69,7 +73,7 @@ pub trait Rows: Drop {
         match unmet(condition, self.find(key)?) {
             Some(reply) => Ok(reply),
             None => {
-                self.remove(key)?;
+                self.remove(key);
                 Ok(Reply::Applied)
             }
         }

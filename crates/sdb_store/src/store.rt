@@ -1,8 +1,9 @@
 //! The calls of a store.
-ghost use Rattle.sdb_types.specs.declared.record.Request.TheVariants.{Get, Scan, PutIf, DeleteIf};
+ghost use Rattle.sdb_types.specs.declared.record.Request.TheVariants.{Get, Scan, PutIf, DeleteIf, PutAll};
+ghost use Rattle.sdb_types.specs.Contents.{IsBatch, IsWellFormed};
 ghost use Rattle.sdb_store.specs.Store.{StoreState, IsStoreCall};
 
-use sdb_types::{Condition, Key, Record, Reply, Request, Span};
+use sdb_types::{Batch, Condition, Key, Record, Reply, Request, Span};
 
 /// Records by key. Each call takes effect at once, wholly or not at all.
 ///
@@ -27,6 +28,11 @@ pub trait Store: Drop {
     /// Takes the record at a key out, where the condition holds of what is there.
     fn delete_if(&mut self, key: &Key, condition: &Condition) -> Reply
         ensures called { IsStoreCall (DeleteIf key.now condition.now) result (state self.old) (state self.new) };
+
+    /// Puts each record of a batch at its key, where each condition holds of what is there, and otherwise none.
+    fn put_all(&mut self, batch: &Batch) -> Reply
+        requires { IsBatch batch.now }
+        ensures called { IsStoreCall (PutAll batch.now) result (state self.old) (state self.new) };
 }
 
 // A call of a box is a call of the store inside.
@@ -48,10 +54,15 @@ impl Store for Box<dyn Store> {
     fn delete_if(&mut self, key: &Key, condition: &Condition) -> Reply {
         (**self).delete_if(key, condition)
     }
+
+    fn put_all(&mut self, batch: &Batch) -> Reply {
+        (**self).put_all(batch)
+    }
 }
 
 /// The call that a request asks for.
 pub fn call<S: Store>(store: &mut S, request: &Request) -> Reply
+    requires { IsWellFormed request.now }
     ensures called { IsStoreCall request.now result (S.state store.old) (S.state store.new) }
 {
     match request {
@@ -59,5 +70,6 @@ pub fn call<S: Store>(store: &mut S, request: &Request) -> Reply
         Request::Scan(span) => store.scan(span),
         Request::PutIf(rec, condition) => store.put_if(rec, condition),
         Request::DeleteIf(key, condition) => store.delete_if(key, condition),
+        Request::PutAll(batch) => store.put_all(batch),
     }
 }

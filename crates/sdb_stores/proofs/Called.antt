@@ -10,6 +10,7 @@ use Rattle.std.proofs.lemmas.List.Quantifiers.{position-Some, any-set}
 use Rattle.std.proofs.lemmas.Option.{slice_get-map, slice_get-get_or, slice_get_within, get_or_from_slice_get}
 use Rattle.std.proofs.lemmas.Slice.Eq.{bytes_eq-Decides}
 use Rattle.sdb_types.specs.Bytes.{HasRisen}
+use Rattle.sdb_types.specs.Contents.{IsWellFormed}
 use Rattle.sdb_types.specs.declared.key.TableName.{TableName}
 use Rattle.sdb_types.specs.declared.record.Request.{Request}
 use Rattle.sdb_types.specs.declared.record.Reply.{Reply}
@@ -104,13 +105,14 @@ telling_set P (x ∷ xs) (suc at) y f (suc i) h = telling_set P xs at y f i h
 told_at : {A : Type 0} (P : A → Type 0) (xs : List A) (at : ℕ) (x : A) → slice_get xs at ≡ Some x → IsSomeAnd (slice_get xs at) P → P x
 told_at P xs at x e h = subst (λ (o : Option _). IsSomeAnd o P) e h
 
-pub called_at : {A : Type 0} {places later : List Place} (name : A → List ℕ) (see : A → StoreState) (xs : List A) (at home : ℕ) (q : Request) (r : Reply) (x y : A) → at < length xs → x ≡ get_or xs at x → at ≡ home
+pub called_at : {A : Type 0} {places later : List Place} (name : A → List ℕ) (see : A → StoreState) (xs : List A) (at home : ℕ) (q : Request) (r : Reply) (x y : A) → IsWellFormed q → at < length xs → x ≡ get_or xs at x → at ≡ home
     → name y ≡ name x → IsStoreCall q r (see x) (see y) → IsCallAt home q r (attached_as name see places xs) (attached_as name see later (slice_set xs at y))
-called_at {A} {places} {later} name see xs at home q r x y inside is same named called =
+called_at {A} {places} {later} name see xs at home q r x y formed inside is same named called =
     let here : slice_get xs at ≡ Some x = slice_get-get_or xs at x inside ∙ ap Some (sym is) in
     let store_content : A → StoreView = λ a. view_of (name a) (see a) in
     let is_known : A → Type 0 = λ a. (see a).known in
     let call : IsCallAt at q r (attached_as name see places xs) (attached_as name see later (slice_set xs at y)) = record {
+      formed = formed;
       before = store_content x;
       now = store_content y;
       stood = lies_at store_content xs at x inside is;
@@ -171,6 +173,7 @@ caused at q (reply.Found found) m n call = sound at q (reply.Found found) m n ca
 caused at q (reply.Rows rows) m n call = sound at q (reply.Rows rows) m n call call.cause
 caused at q reply.Applied m n call = sound at q reply.Applied m n call call.cause
 caused at q (reply.NotMet found) m n call = sound at q (reply.NotMet found) m n call call.cause
+caused at q (reply.NotAll k found) m n call = sound at q (reply.NotAll k found) m n call call.cause
 
 ---- a store accepted out
 

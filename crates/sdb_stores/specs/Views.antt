@@ -8,7 +8,7 @@ use Rattle.sdb_types.specs.declared.record.Request.{Request}
 use Rattle.sdb_types.specs.declared.record.Request.TheVariants as ask
 use Rattle.sdb_types.specs.declared.record.Reply.{Reply}
 use Rattle.sdb_types.specs.declared.record.Reply.TheVariants as reply
-use Rattle.sdb_types.specs.Contents.{Contents, CanAnswer}
+use Rattle.sdb_types.specs.Contents.{Contents, CanAnswer, IsWellFormed, table_of_puts}
 use Rattle.sdb_types.specs.Draws.{counted as next_number}
 use Rattle.sdb_store.specs.Store.{StoreState, Performs, faults_after}
 use Rattle.sdb_types.specs.declared.place.Place.{Place}
@@ -88,10 +88,12 @@ table_of (ask.Get key) = key.table
 table_of (ask.Scan span) = span.table
 table_of (ask.PutIf r condition) = r.key.table
 table_of (ask.DeleteIf key condition) = key.table
+table_of (ask.PutAll b) = table_of_puts b
 
--- One call on the store at that place, which counts it as one, and as one failure exactly where the reply is a fault. Every other
+-- One call of a well-formed request on the store at that place, which counts it as one, and as one failure exactly where the reply is a fault. Every other
 -- store stays as it was, and known contents stay known.
 pub record IsCallAt (at : ℕ) (q : Request) (r : Reply) (old new : Attached) : Type 0 where
+  pub formed : IsWellFormed q
   pub before : StoreView
   pub now : StoreView
   pub stood : slice_get old.views at ≡ Some before
@@ -163,3 +165,4 @@ HaveCause (reply.Found found) old new = AreSound old new
 HaveCause (reply.Rows rows) old new = AreSound old new
 HaveCause reply.Applied old new = AreSound old new
 HaveCause (reply.NotMet found) old new = AreSound old new
+HaveCause (reply.NotAll k found) old new = AreSound old new

@@ -1,5 +1,6 @@
 //! The table of a request, and why a namespace was not placed.
 ghost use Rattle.std.specs.Prelude.{◌≡◌};
+ghost use Rattle.sdb_types.specs.Contents.{IsWellFormed};
 ghost use Rattle.sdb_stores.specs.Views.{table_of as table_of_lem};
 ghost use Rattle.sdb_stores.specs.declared.place.PlaceRefused.TheVariants.{NoMemory as OutOfMemory};
 
@@ -26,6 +27,7 @@ impl From<NoMemory> for PlaceRefused {
 
 /// The table that a request is about.
 pub fn table_of(request: &Request) -> &TableName
+    requires { IsWellFormed request.now }
     ensures { result.now ≡ table_of_lem request.now }
 {
     match request {
@@ -33,5 +35,6 @@ pub fn table_of(request: &Request) -> &TableName
         Request::Scan(span) => &span.table,
         Request::PutIf(rec, _) => &rec.key.table,
         Request::DeleteIf(key, _) => &key.table,
+        Request::PutAll(batch) => &batch.as_slice()[0].rec.key.table,
     }
 }

@@ -1,5 +1,6 @@
 //! A registry of stores.
 ghost use Rattle.std.specs.Prelude.{◌≡◌, ◌<◌, ◌≤◌, ◌↔◌, ◌++◌, ◌∷◌, [], length, Some, None, IsSome, IfOk, OnOk, OnErr, IsErrOf, slice_get};
+ghost use Rattle.sdb_types.specs.Contents.{IsWellFormed};
 ghost use Rattle.sdb_stores.specs.Views.{Attached, AreDistinct, IsCallAt, HaveCause, HavePlaces, IsDropped, IsRoutedAlready, AreUnchanged, home_in, index_at, index_in, names_of, table_of, total_faults};
 
 use crate::place::PlaceRefused;
@@ -37,7 +38,8 @@ pub trait Registry {
 
     /// One call on the store of the request's table.
     fn perform(&mut self, request: &Request) -> Reply
-        requires { 0 < length (state self.old).views }
+        requires some { 0 < length (state self.old).views }
+        requires formed { IsWellFormed request.now }
         ensures called { IsCallAt (home_in (state self.old) (table_of request.now).ns) request.now result (state self.old) (state self.new) }
         ensures places { (state self.new).places ≡ (state self.old).places }
         ensures names { names_of (state self.new).views ≡ names_of (state self.old).views }
@@ -47,6 +49,7 @@ pub trait Registry {
     /// One call on the store of that name, whichever store the request's table is placed on. Every other store stays as it was.
     fn perform_at(&mut self, store: &Name, request: &Request) -> Reply
         requires attached { IsSome (index_in (state self.old) store.now) }
+        requires formed { IsWellFormed request.now }
         ensures called { IsCallAt (index_at (state self.old) store.now) request.now result (state self.old) (state self.new) }
         ensures places { (state self.new).places ≡ (state self.old).places }
         ensures names { names_of (state self.new).views ≡ names_of (state self.old).views }

@@ -1,6 +1,7 @@
 //! Stores in boxes.
 ghost use Rattle.std.specs.Prelude.{◌≡◌, ◌↔◌, ◌⊎◌, ◌<◌, ◌++◌, ◌∷◌, [], ℕ, List, length, map, position, Err, None, IsSome, IfOk, IfSome, IfNone, OnOk, OnErr};
 ghost use Rattle.std.specs.Str.{bytes_eq};
+ghost use Rattle.sdb_types.specs.Contents.{IsWellFormed};
 ghost use Rattle.sdb_store.specs.Store.{IsStoreCall};
 ghost use Rattle.sdb_stores.specs.Views.{AreDistinct, IsAdded, IsCallAt, IsTakenOut, AreUnchanged, attached_as, home_in, index_in};
 ghost use Rattle.sdb_types.specs.declared.place.Place.{Place};
@@ -66,6 +67,7 @@ fn place_in<T: Named>(items: &[T], name: &Name) -> Option<usize>
 
 // One call on the store of a slot.
 fn call_slot(slot: &mut Slot, request: &Request) -> Reply
+    requires { IsWellFormed request.now }
     ensures name { slot.new.name ≡ slot.old.name }
     ensures called { IsStoreCall request.now result (state slot.old.store) (state slot.new.store) }
 {
@@ -103,7 +105,8 @@ impl Stores {
 
     // One call on the store at an index.
     fn perform_on(&mut self, at: usize, request: &Request) -> Reply
-        requires { at < length (⟦<Stores as Registry>⟧.state self.old).views }
+        requires at { at < length (⟦<Stores as Registry>⟧.state self.old).views }
+        requires formed { IsWellFormed request.now }
         ensures called { IsCallAt at request.now result (⟦<Stores as Registry>⟧.state self.old) (⟦<Stores as Registry>⟧.state self.new) }
         ensures places { (⟦<Stores as Registry>⟧.state self.new).places ≡ (⟦<Stores as Registry>⟧.state self.old).places }
     {

@@ -5,6 +5,7 @@ mod Keys
 mod ColumnLemmas
 mod TxIdLemmas
 mod Pieces
+mod Batches
 mod Replies
 mod ColumnMap
 mod Words

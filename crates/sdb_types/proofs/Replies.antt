@@ -16,6 +16,7 @@ use Rattle.sdb_types.specs.Order.{key_cmp}
 use Rattle.sdb_types.specs.Contents.{Contents, record_of, record_at, in_span, rows_among, rows_in, holds, put_reply, reply_to, starts_after, rise, are_rows_of, CanAnswer}
 use Rattle.sdb_types.proofs.Bools.{and_first, and_second, and_both}
 use Rattle.sdb_types.proofs.Basics.{truth}
+use Rattle.sdb_types.proofs.Batches.{record_at-key, batch_can}
 
 rows_after : (key : Key) (span : Span) (es : List (Key × List Pair)) → below_all key_cmp key es ≡ true → starts_after key (rows_among span es) ≡ true
 rows_after key span [] h = refl
@@ -48,14 +49,6 @@ pub rows_in-are_rows_of : (span : Span) (m : Contents) → are_rows_of span (row
 rows_in-are_rows_of span m =
     and_both _ _ (rows_rise span (entries m) (truth (is_sorted key_cmp (entries m)) (entries_sorted m))) (rows_within span (entries m))
 
--- the record at a key has that key
-pub record_at-key : (m : Contents) (key : Key) → IfSome (record_at m key) (λ r. r.key ≡ key)
-record_at-key m key =
-    elim (get m key) as (λ (o : Option (List Pair)). IfSome (option_map (λ columns. record_of (key, columns)) o) (λ r. r.key ≡ key)) [
-      | None ↦ tt
-      | Some columns ↦ refl
-    ]
-
 put_can : (condition : Condition) (key : Key) (found : Option Record) (columns : List Pair) → IfSome found (λ r. r.key ≡ key)
     → CanAnswer (ask.PutIf (record { key = key; columns = columns }) condition) (put_reply condition found)
 put_can condition key found columns own =
@@ -76,3 +69,4 @@ can_answer (ask.Get key) m = record_at-key m key
 can_answer (ask.Scan span) m = rows_in-are_rows_of span m
 can_answer (ask.PutIf r condition) m = put_can condition r.key (record_at m r.key) r.columns (record_at-key m r.key)
 can_answer (ask.DeleteIf key condition) m = delete_can condition key (record_at m key) (record_at-key m key)
+can_answer (ask.PutAll b) m = batch_can b m

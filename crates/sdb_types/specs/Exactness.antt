@@ -1,5 +1,5 @@
 -- The tests of equality hold of equal values alone.
-use Rattle.std.proofs.Common.{◌≡◌, Bool, true, ◌&&◌, Some, None, refl, ap}
+use Rattle.std.proofs.Common.{◌≡◌, ◌==◌, Bool, true, ◌&&◌, Some, None, refl, ap}
 use Rattle.std.specs.Cmp.{first_so, second_so, unsigned_Decides}
 use Rattle.std.specs.Cmp.Lexicographic.{pointwise, pointwise_decides, bytes_decides}
 use Rattle.std.specs.Option.{option_eq}
@@ -18,6 +18,7 @@ use Rattle.sdb_types.specs.contracts.record.RecordPartialEq.TheImpl as record_eq
 use Rattle.sdb_types.specs.contracts.record.SpanPartialEq.TheImpl as span_eq
 use Rattle.sdb_types.specs.contracts.record.StatePartialEq.TheImpl as state_eq
 use Rattle.sdb_types.specs.contracts.record.ConditionPartialEq.TheImpl as condition_eq
+use Rattle.sdb_types.specs.contracts.record.PutPartialEq.TheImpl as put_eq
 use Rattle.sdb_types.specs.contracts.record.RequestPartialEq.TheImpl as request_eq
 use Rattle.sdb_types.specs.contracts.record.ReplyPartialEq.TheImpl as reply_eq
 
@@ -100,6 +101,12 @@ condition_is_exact (Version t s) (Version u r) =
     (λ h i. Version (id.0 (first_so x y h) i) (state.0 (second_so x y h) i), λ e. both x y (id.1 (cc)) (state.1 (cc)))
 condition_is_exact a b = (λ h. cc, λ e. cc)
 
+pub put_is_exact : IsExact (put_eq.ghosts).eq
+put_is_exact = parts_tell record_is_exact condition_is_exact (λ p. p.rec) (λ p. p.condition) (λ a b p q i. record { rec = p i; condition = q i })
+
+pub batch_is_exact : IsExact (pointwise (put_eq.ghosts).eq)
+batch_is_exact = pointwise_decides put_is_exact
+
 pub request_is_exact : IsExact (request_eq.ghosts).eq
 request_is_exact (ask.Get k) (ask.Get l) = (λ h. ap ask.Get ((key_is_exact k l).0 h), λ e. (key_is_exact k l).1 (cc))
 request_is_exact (ask.Scan s) (ask.Scan t) = (λ h. ap ask.Scan ((span_is_exact s t).0 h), λ e. (span_is_exact s t).1 (cc))
@@ -115,6 +122,7 @@ request_is_exact (ask.DeleteIf k c) (ask.DeleteIf l d) =
     let x = (key_eq.ghosts).eq k l in
     let y = (condition_eq.ghosts).eq c d in
     (λ h i. ask.DeleteIf (key.0 (first_so x y h) i) (condition.0 (second_so x y h) i), λ e. both x y (key.1 (cc)) (condition.1 (cc)))
+request_is_exact (ask.PutAll a) (ask.PutAll b) = (λ h. ap ask.PutAll ((batch_is_exact a b).0 h), λ e. (batch_is_exact a b).1 (cc))
 request_is_exact a b = (λ h. cc, λ e. cc)
 
 pub reply_is_exact : IsExact (reply_eq.ghosts).eq
@@ -122,6 +130,12 @@ reply_is_exact (reply.Found a) (reply.Found b) = (λ h. ap reply.Found ((option_
 reply_is_exact (reply.Rows a) (reply.Rows b) = (λ h. ap reply.Rows ((records_are_exact a b).0 h), λ e. (records_are_exact a b).1 (cc))
 reply_is_exact reply.Applied reply.Applied = (λ h. refl, λ e. refl)
 reply_is_exact (reply.NotMet a) (reply.NotMet b) = (λ h. ap reply.NotMet ((option_is_exact record_is_exact a b).0 h), λ e. (option_is_exact record_is_exact a b).1 (cc))
+reply_is_exact (reply.NotAll n a) (reply.NotAll k b) =
+    let place = unsigned_Decides n k in
+    let found = option_is_exact record_is_exact a b in
+    let x = n == k in
+    let y = option_eq (record_eq.ghosts).eq a b in
+    (λ h i. reply.NotAll (place.0 (first_so x y h) i) (found.0 (second_so x y h) i), λ e. both x y (place.1 (cc)) (found.1 (cc)))
 reply_is_exact reply.Fault reply.Fault = (λ h. refl, λ e. refl)
 reply_is_exact reply.NoMemory reply.NoMemory = (λ h. refl, λ e. refl)
 reply_is_exact a b = (λ h. cc, λ e. cc)

@@ -7,6 +7,7 @@ use Rattle.sdb_types.specs.Columns.{are_columns}
 use Rattle.sdb_types.specs.declared.pair.Pair.{Pair}
 use Rattle.sdb_types.specs.declared.key.Key.{Key}
 use Rattle.sdb_types.specs.declared.record.Record.{Record}
+use Rattle.sdb_types.specs.declared.record.Put.{Put}
 use Rattle.sdb_types.specs.declared.value.Value.{Value}
 use Rattle.sdb_types.specs.declared.value.Value.TheVariants as value
 
@@ -45,3 +46,6 @@ pub record columns_fit (columns : List Pair) : Type 0 where
 pub record record_fits (r : Record) : Type 0 where
   pub key : key_fits r.key
   pub columns : columns_fit r.columns
+
+abbrev pub put_fits : Put → Type 0
+put_fits p = record_fits p.rec

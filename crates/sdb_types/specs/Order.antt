@@ -1,5 +1,6 @@
 -- The order of values, tables and keys.
-use Rattle.std.specs.Prelude.{ℕ, ℤ, pos, Bool, false, List, [], ◌∷◌, ◌++◌}
+use Rattle.std.specs.Prelude.{ℕ, ℤ, pos, Bool, true, false, not, ◌&&◌, ◌||◌, List, [], ◌∷◌, ◌++◌}
+use Rattle.std.specs.List.{list_all}
 use Rattle.std.specs.declared.cmp.Ordering.{Ordering}
 use Rattle.std.specs.Ordering.{nat_cmp, int_cmp, bool_cmp, ordering_then, is_eq}
 use Rattle.std.specs.Cmp.Lexicographic.{slice_cmp}
@@ -60,6 +61,25 @@ key_cmp a b =
 -- two keys are one
 unfoldable pub same_key : Key → Key → Bool
 same_key a b = is_eq (key_cmp a b)
+
+-- a key is among keys
+abbrev pub has_key : List Key → Key → Bool
+has_key [] q = false
+has_key (k ∷ ks) q = has_key ks q || same_key q k
+
+-- no key comes twice
+abbrev pub are_distinct : List Key → Bool
+are_distinct [] = true
+are_distinct (k ∷ ks) = not (has_key ks k) && are_distinct ks
+
+-- two keys are of one partition of one table
+abbrev pub same_partition : Key → Key → Bool
+same_partition a b = is_eq (table_cmp a.table b.table) && is_eq (slice_cmp value_cmp a.partition b.partition)
+
+-- all keys are of one partition of one table
+abbrev pub in_one_partition : List Key → Bool
+in_one_partition [] = true
+in_one_partition (k ∷ ks) = list_all (same_partition k) ks
 
 -- `ns.table`
 abbrev pub table_text : TableName → List ℕ

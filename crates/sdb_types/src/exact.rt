@@ -1,13 +1,13 @@
 //! Equality that distinguishes values.
 ghost use Rattle.std.specs.Prelude.{◌≡◌, true, IsTrue, ◌↔◌};
 ghost use Rattle.std.specs.Cmp.Lexicographic.{pointwise_decides, bytes_decides};
-ghost use Rattle.sdb_types.specs.Exactness.{value_is_exact, table_is_exact, pair_is_exact, id_is_exact, key_is_exact, columns_are_exact, record_is_exact, span_is_exact, state_is_exact, condition_is_exact, request_is_exact, reply_is_exact};
+ghost use Rattle.sdb_types.specs.Exactness.{value_is_exact, table_is_exact, pair_is_exact, id_is_exact, key_is_exact, columns_are_exact, record_is_exact, span_is_exact, state_is_exact, condition_is_exact, put_is_exact, request_is_exact, reply_is_exact};
 
 use crate::columns::Columns;
 use crate::key::{Key, TableName};
 use crate::name::Name;
 use crate::pair::Pair;
-use crate::record::{Condition, Record, Reply, Request, Span, State};
+use crate::record::{Condition, Put, Record, Reply, Request, Span, State};
 use crate::shared::SharedSeq;
 use crate::text::Txt;
 use crate::txid::TxId;
@@ -75,6 +75,10 @@ impl Exact for State {
 
 impl Exact for Condition {
     ghost decides = { condition_is_exact };
+}
+
+impl Exact for Put {
+    ghost decides = { put_is_exact };
 }
 
 impl Exact for Request {

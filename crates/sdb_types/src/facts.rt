@@ -2,9 +2,9 @@
 //! nothing; they say it where a proof needs it.
 ghost use Rattle.std.specs.Prelude.{◌≡◌, true, All};
 ghost use Rattle.sdb_types.specs.Identifier.{is_name};
-ghost use Rattle.sdb_types.specs.Fits.{AreBytes, text_fits, value_fits, pair_fits, key_fits, columns_fit, record_fits};
+ghost use Rattle.sdb_types.specs.Fits.{AreBytes, text_fits, value_fits, pair_fits, key_fits, columns_fit, record_fits, put_fits};
 
-use crate::{Columns, Key, Name, Octets, Pair, Record, TableName, Txt, Value};
+use crate::{Batch, Columns, Key, Name, Octets, Pair, Put, Record, TableName, Txt, Value};
 
 /// What is known of a name.
 pub fn name_facts(name: &Name)
@@ -98,4 +98,19 @@ pub fn record_facts(rec: &Record)
 {
     key_facts(&rec.key);
     columns_facts(&rec.columns);
+}
+
+fn puts_facts(puts: &[Put])
+    ensures { All put_fits puts.now }
+{
+    for put in puts {
+        record_facts(&put.rec);
+    }
+}
+
+/// What is known of the puts of a batch.
+pub fn batch_facts(batch: &Batch)
+    ensures { All put_fits batch.now }
+{
+    puts_facts(batch.as_slice());
 }

@@ -1,6 +1,6 @@
 //! Names of tables, and keys of records.
 ghost use Rattle.std.specs.Prelude.{◌≡◌, IfOk};
-ghost use Rattle.sdb_types.specs.Order.{key_cmp};
+ghost use Rattle.sdb_types.specs.Order.{key_cmp, same_partition};
 
 use crate::memory::{Duplicate, NoMemory};
 use crate::name::Name;
@@ -66,5 +66,12 @@ impl Key {
         ensures { result ≡ key_cmp self.now other.now }
     {
         self.cmp(other)
+    }
+
+    /// Whether two keys are of one partition of one table. Takes no memory.
+    pub fn is_beside(&self, other: &Key) -> bool
+        ensures { result ≡ same_partition self.now other.now }
+    {
+        self.table.cmp(&other.table).is_eq() && self.partition.cmp(&other.partition).is_eq()
     }
 }

@@ -2,6 +2,7 @@
 //! the traits of what lies outside the program.
 #![tactic(auto)]
 
+mod batch;
 mod calls;
 mod columns;
 mod columns_order;
@@ -30,10 +31,11 @@ mod txid;
 mod value;
 mod value_order;
 
+pub use batch::{is_batch, is_well_formed, put_at, sent};
 pub use calls::Calls;
 pub use columns::{Columns, value_named};
 pub use exact::{Exact, same};
-pub use facts::{key_facts, name_facts, record_facts, table_facts, values_facts};
+pub use facts::{batch_facts, key_facts, name_facts, record_facts, table_facts, values_facts};
 pub use feed::Feed;
 pub use key::{Key, TableName};
 pub use known::Known;
@@ -43,7 +45,7 @@ pub use numbers::Numbers;
 pub use outside::{Clock, Failed, Ids, Sink, SinkRefused, Source};
 pub use pair::Pair;
 pub use place::Place;
-pub use record::{Condition, Record, Records, Reply, Request, Span, State};
+pub use record::{Batch, Condition, Put, Record, Records, Reply, Request, Span, State};
 pub use seq::Seq;
 pub use shared::SharedSeq;
 pub use text::Txt;

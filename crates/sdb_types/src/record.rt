@@ -40,6 +40,15 @@ impl Record {
         let Record { key, columns: _ } = self;
         key
     }
+
+    /// Its key and its columns.
+    pub fn into_parts(self) -> (Key, Columns)
+        ensures key { result.0 ≡ self.key }
+        ensures columns { result.1 ≡ self.columns }
+    {
+        let Record { key, columns } = self;
+        (key, columns)
+    }
 }
 
 pub type Records = Seq<Record>;
@@ -128,6 +137,46 @@ impl Duplicate for Condition {
     }
 }
 
+/// A record to be put at its key, where the condition holds of what is there.
+#[derive(Debug, PartialEq, Eq)]
+pub struct Put {
+    pub rec: Record,
+    pub condition: Condition,
+}
+
+// By hand: each drop is then one call, where a derived one is written out at each exit, with a call for each field.
+impl Drop for Put {
+    fn drop(self) {
+        let Put {
+            rec: _,
+            condition: _,
+        } = self;
+    }
+}
+
+impl Put {
+    /// Its record and its condition.
+    pub fn into_parts(self) -> (Record, Condition)
+        ensures rec { result.0 ≡ self.rec }
+        ensures condition { result.1 ≡ self.condition }
+    {
+        let Put { rec, condition } = self;
+        (rec, condition)
+    }
+}
+
+impl Duplicate for Put {
+    fn copy(&self) -> Result<Put, NoMemory> {
+        Ok(Put {
+            rec: self.rec.copy()?,
+            condition: self.condition,
+        })
+    }
+}
+
+/// The puts of one call.
+pub type Batch = Seq<Put>;
+
 /// One call on one store.
 #[derive(Debug, Drop, PartialEq, Eq)]
 pub enum Request {
@@ -135,6 +184,7 @@ pub enum Request {
     Scan(Span),
     PutIf(Record, Condition),
     DeleteIf(Key, Condition),
+    PutAll(Batch),
 }
 
 impl Duplicate for Request {
@@ -144,6 +194,7 @@ impl Duplicate for Request {
             Request::Scan(span) => Ok(Request::Scan(span.copy()?)),
             Request::PutIf(rec, condition) => Ok(Request::PutIf(rec.copy()?, *condition)),
             Request::DeleteIf(key, condition) => Ok(Request::DeleteIf(key.copy()?, *condition)),
+            Request::PutAll(batch) => Ok(Request::PutAll(batch.copy()?)),
         }
     }
 }
@@ -155,6 +206,8 @@ pub enum Reply {
     Rows(Records),
     Applied,
     NotMet(Option<Record>),
+    /// The place of the first put whose condition does not hold, counted from 1, and what is at its key.
+    NotAll(u32, Option<Record>),
     Fault,
     NoMemory,
 }
@@ -166,6 +219,7 @@ impl Duplicate for Reply {
             Reply::Rows(rows) => Ok(Reply::Rows(rows.copy()?)),
             Reply::Applied => Ok(Reply::Applied),
             Reply::NotMet(found) => Ok(Reply::NotMet(found.copy()?)),
+            Reply::NotAll(place, found) => Ok(Reply::NotAll(*place, found.copy()?)),
             Reply::Fault => Ok(Reply::Fault),
             Reply::NoMemory => Ok(Reply::NoMemory),
         }

@@ -1,8 +1,8 @@
-use Rattle.std.proofs.Common.{◌∙◌, sym, ap, None}
+use Rattle.std.proofs.Common.{◌∙◌, sym, ap, None, Ok}
 use Rattle.std.specs.FinMap.{get, remove}
 use Rattle.std.proofs.lemmas.Map.Keys.{IsDistinct-from_sorted}
 use Rattle.sdb_hashed.proofs.Changes.{remove_local, remove_absent}
-use Rattle.sdb_hashed.proofs.Calls.{found_part, through_own, through_ok, through_err}
+use Rattle.sdb_hashed.proofs.Calls.{found_part, through_own, through_ok}
 use Rattle.sdb_hashed.proofs.parts.PartsRows.remove.Goals as goal
 use Rattle.sdb_hashed.proofs.parts.PartsRows.remove.Goals.{in-Some, in-None}
 
@@ -14,32 +14,21 @@ invariant_of-self g c =
           let w = v.remove.new.self in
           let h = rw c.of.ensures at c.get_mut.follows.holds w in
           rw v.self-inside-is
-          (h.4, through_own g.K.Ord.cmp g.met.K.Part.exact g.K.Part.part g.R.Rows.contents c.self.inside.rows (c.get_mut.follows.lender w) k v.in-Some.rows.now w (IsDistinct-from_sorted g.K.Ord.cmp _ c.self.invariant.0) c.self.invariant.1 (rw c.of.ensures at v.in-Some.ensures.value) h (λ m. remove m k) (remove_local k) v.remove.result v.remove.ensures.ok v.remove.ensures.err)
+          (h.4, through_own g.K.Ord.cmp g.met.K.Part.exact g.K.Part.part g.R.Rows.contents c.self.inside.rows (c.get_mut.follows.lender w) k v.in-Some.rows.now w (IsDistinct-from_sorted g.K.Ord.cmp _ c.self.invariant.0) c.self.invariant.1 (rw c.of.ensures at v.in-Some.ensures.value) h {A = Unit {0}} {E = Unit {0}} (λ m. remove m k) (remove_local k) (Ok tt) v.remove.ensures tt)
       | in-None v ↦ rw (v.self-inside-is, c.get_mut.follows.holds-at-none) c.self.invariant
     ]
 
-pub returns-clause-ok : goal.returns-clause-ok
-returns-clause-ok g c =
+pub returns : goal.returns
+returns g c =
     let k = c.args.key.now in
     elim c.match-get_mut.branch [
       | in-Some v ↦
           let w = v.remove.new.self in
           let h = rw c.of.ensures at c.get_mut.follows.holds w in
-          rw (v.result-is, v.self-inside-is)
-          (through_ok g.K.Ord.cmp g.met.K.Part.exact g.K.Part.part g.R.Rows.contents c.self.inside.rows (c.get_mut.follows.lender w) k v.in-Some.rows.now w (IsDistinct-from_sorted g.K.Ord.cmp _ c.self.invariant.0) c.self.invariant.1 (rw c.of.ensures at v.in-Some.ensures.value) h (λ m. remove m k) (remove_local k) c.args.self.now c.self.view_is v.remove.result v.remove.ensures.ok)
+          rw v.self-inside-is
+          (through_ok g.K.Ord.cmp g.met.K.Part.exact g.K.Part.part g.R.Rows.contents c.self.inside.rows (c.get_mut.follows.lender w) k v.in-Some.rows.now w (IsDistinct-from_sorted g.K.Ord.cmp _ c.self.invariant.0) c.self.invariant.1 (rw c.of.ensures at v.in-Some.ensures.value) h {A = Unit {0}} {E = Unit {0}} (λ m. remove m k) (remove_local k) c.args.self.now c.self.view_is (Ok tt) v.remove.ensures)
       | in-None v ↦
           let none = rw c.of.ensures at v.in-None.ensures.value in
           let is = found_part g.K.Ord.cmp g.met.K.Part.exact g.K.Part.part g.R.Rows.contents c.self.inside.rows.entries (IsDistinct-from_sorted g.K.Ord.cmp _ c.self.invariant.0) c.self.invariant.1 k None none ∙ ap (λ m. get m k) c.self.view_is in
-          rw (v.result-is, v.self-inside-is, c.get_mut.follows.holds-at-none) (c.self.view_is ∙ sym (remove_absent c.args.self.now k (sym is)))
-    ]
-
-pub returns-clause-err : goal.returns-clause-err
-returns-clause-err g c =
-    elim c.match-get_mut.branch [
-      | in-Some v ↦
-          let w = v.remove.new.self in
-          let h = rw c.of.ensures at c.get_mut.follows.holds w in
-          rw (v.result-is, v.self-inside-is)
-          (through_err g.K.Ord.cmp g.met.K.Part.exact g.K.Part.part g.R.Rows.contents c.self.inside.rows (c.get_mut.follows.lender w) c.args.key.now v.in-Some.rows.now w (IsDistinct-from_sorted g.K.Ord.cmp _ c.self.invariant.0) c.self.invariant.1 (rw c.of.ensures at v.in-Some.ensures.value) h c.args.self.now c.self.view_is v.remove.result v.remove.ensures.err)
-      | in-None v ↦ rw v.result-is tt
+          rw (v.self-inside-is, c.get_mut.follows.holds-at-none) (c.self.view_is ∙ sym (remove_absent c.args.self.now k (sym is)))
     ]

@@ -1,9 +1,9 @@
 use Rattle.sdb_stores.proofs.Called.{home_within, moved_at, same_home, same_names, grown, caused, shown_inside}
 use Rattle.sdb_stores.proofs.stores.StoresRegistry.perform.Goals as goal
 
-pub perform_on-requires : goal.perform_on-requires
-perform_on-requires g c =
-    shown_inside _ c.args.self.now.slots.items _ (home_within _ c.args.self.now.slots.items c.args.self.now.places c.table_of.result.now.ns c.home_of-at.result c.requires c.home_of-at.ensures)
+pub perform_on-requires-clause-at : goal.perform_on-requires-clause-at
+perform_on-requires-clause-at g c =
+    shown_inside _ c.args.self.now.slots.items _ (home_within _ c.args.self.now.slots.items c.args.self.now.places c.table_of.result.now.ns c.home_of-at.result c.requires.some c.home_of-at.ensures)
 
 pub returns-clause-called : goal.returns-clause-called
 returns-clause-called g c =

@@ -3,8 +3,8 @@ use Rattle.std.specs.Prelude.{unwrap_or}
 use Rattle.sdb_stores.proofs.Called.{moved_at, named_within, same_names, grown, caused}
 use Rattle.sdb_stores.proofs.stores.StoresRegistry.perform_at.Goals as goal
 
-pub perform_on-requires : goal.perform_on-requires
-perform_on-requires g c = named_within _ c.args.store.now c.index_of.result c.unwrap_or-at.result c.requires.attached c.index_of.ensures c.unwrap_or-at.ensures
+pub perform_on-requires-clause-at : goal.perform_on-requires-clause-at
+perform_on-requires-clause-at g c = named_within _ c.args.store.now c.index_of.result c.unwrap_or-at.result c.requires.attached c.index_of.ensures c.unwrap_or-at.ensures
 
 pub returns-clause-called : goal.returns-clause-called
 returns-clause-called g c =

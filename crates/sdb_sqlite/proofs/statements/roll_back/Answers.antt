@@ -1,0 +1,4 @@
+use Rattle.sdb_sqlite.proofs.statements.roll_back.Goals as goal
+
+pub returns : goal.returns
+returns g c = record { runs = λ clean. c.execute.ensures.runs clean; limit = c.execute.ensures.survives.limit }
