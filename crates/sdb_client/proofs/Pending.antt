@@ -6,7 +6,6 @@ use Rattle.std.proofs.lemmas.Bool.Decides.{nat_tests}
 use Rattle.std.proofs.lemmas.List.{length-map}
 use Rattle.sdb_client.specs.Types.{Check, DecidePhase, DecideStep, Key, Meta, Outcome, PrepareStep, Record, RecoverPhase, RecoverStep, Reply, Request, ValidateStep}
 use Rattle.sdb_types.specs.declared.record.Reply.TheVariants as reply
-use Rattle.sdb_types.specs.declared.record.Request.TheVariants as ask
 use Rattle.sdb_phases.specs.declared.step.RecoverStep.TheVariants as steps
 use Rattle.sdb_phases.specs.Recover.{recover_next}
 use Rattle.sdb_phases.specs.declared.step.DecidePhase.TheVariants as phase
@@ -14,11 +13,13 @@ use Rattle.sdb_phases.specs.declared.step.DecideStep.TheVariants as decide
 use Rattle.sdb_phases.specs.declared.step.Outcome.TheVariants as outcome
 use Rattle.sdb_phases.specs.declared.step.PrepareStep.TheVariants as prepare
 use Rattle.sdb_phases.specs.declared.step.ValidateStep.TheVariants as validate
-use Rattle.sdb_phases.specs.Work.{Work, prepares}
+use Rattle.sdb_phases.specs.Work.{Work, groups_of, prepares, writes_before}
 use Rattle.sdb_phases.specs.Checks.{checks, difference_in}
-use Rattle.sdb_phases.specs.Steps.{decide_next, decide_request_at, judged, prepare_step, refused, touched_after, validate_step}
+use Rattle.sdb_phases.specs.Steps.{decide_next, decide_request_at, judged, prepare_step, touched_after, validate_step}
 use Rattle.sdb_phases.specs.Commit.{Stage, Preparing, Checking, Deciding, Forward, Stopping, Back, Over, after_abort, after_check, after_decide, after_prepare, back, checking, forward, pending, preparing, step as commit_step}
-use Rattle.sdb_phases.proofs.Public.{by_steps, GoesOn, recover_goes}
+use Rattle.sdb_phases.proofs.Public.{by_steps, GoesOn, recover_goes, refused_ends, touched_within}
+use Rattle.sdb_record.specs.Groups.{grouped, in_groups}
+use Rattle.sdb_record.proofs.Public.{in_groups_length}
 use Rattle.sdb_txn.specs.Phases.{IsNext, ended_at}
 use Rattle.sdb_validate.specs.Inside.{Judges}
 use Rattle.sdb_client.specs.Inside.{IsCommitPending}
@@ -72,17 +73,17 @@ some_of : {A B : Type 0} (f : A → B) (xs : List A) (i : ℕ) → i < length xs
 some_of f xs i h = some_at (map f xs) i (subst (λ (n : ℕ). i < n) (sym (length-map xs f)) h)
 
 pub going_asks : (p : Work) (s : Stage) → IsCommitPending p s → IsSome (pending p s)
-going_asks p (Preparing i) h = some_of _ p.writes i h
+going_asks p (Preparing i) h = some_of _ (grouped p.writes) i h
 going_asks p (Checking i) h = some_mapped (λ (c : Check). c.request) (slice_get (checks p) i) (some_at (checks p) i h)
 going_asks p (Deciding d) h = h
-going_asks p (Forward i) h = some_of _ p.writes i h
+going_asks p (Forward i) h = some_of _ (grouped p.writes) i h
 going_asks p (Stopping a n) h = refl
-going_asks p (Back a n i) h = some_of _ p.writes i (let first = h.0 in let second = h.1 in omega arith)
+going_asks p (Back a n i) h = some_of _ (in_groups p.writes) i (let first = h.0 in let second = h.1 in omega (arith, in_groups_length p.writes))
 going_asks p (Over a) h = absurd h
 
 going_forward : (p : Work) (i : ℕ) → ended_at (forward p i) ≡ None → IsCommitPending p (forward p i)
 going_forward p i h =
-    elim (nat_lt i (length p.writes)) as (λ b. nat_lt i (length p.writes) ≡ b → ended_at (cond b (Forward i) (Over outcome.Committed)) ≡ None → IsCommitPending p (cond b (Forward i) (Over outcome.Committed))) [
+    elim (nat_lt i (groups_of p)) as (λ b. nat_lt i (groups_of p) ≡ b → ended_at (cond b (Forward i) (Over outcome.Committed)) ≡ None → IsCommitPending p (cond b (Forward i) (Over outcome.Committed))) [
       | true ↦ λ e k. grind (arith, nat_tests, e)
       | false ↦ λ e k. absurd (cc)
     ] refl h
@@ -103,7 +104,7 @@ going_checking p i =
 
 pub going_first : (p : Work) → IsCommitPending p (preparing p 0)
 going_first p =
-    elim (nat_lt 0 (length p.writes)) as (λ b. nat_lt 0 (length p.writes) ≡ b → IsCommitPending p (cond b (Preparing 0) (checking p 0))) [
+    elim (nat_lt 0 (groups_of p)) as (λ b. nat_lt 0 (groups_of p) ≡ b → IsCommitPending p (cond b (Preparing 0) (checking p 0))) [
       | true ↦ λ e. grind (arith, nat_tests, e)
       | false ↦ λ e. going_checking p 0
     ] refl
@@ -111,27 +112,13 @@ going_first p =
 less_of_test : (a b : ℕ) → nat_lt a b ≡ true → a < b
 less_of_test a b e = grind (arith, nat_tests, e)
 
-refused_ends : (q : Option Request) (found : Option Record) → refused q found ≡ prepare.More → ⊥
-refused_ends None found e = cc
-refused_ends (Some (ask.PutIf r condition)) found e = cc
-refused_ends (Some (ask.Get key)) found e = cc
-refused_ends (Some (ask.Scan span)) found e = cc
-refused_ends (Some (ask.DeleteIf key condition)) found e = cc
-
 prepare_more : (more : Bool) (q : Option Request) (r : Reply) → prepare_step more q r ≡ prepare.More → more ≡ true
 prepare_more true q r e = refl
-prepare_more false q (reply.NotMet found) e = absurd (refused_ends q found e)
+prepare_more false q (reply.NotMet found) e = absurd (refused_ends q 1 found e)
+prepare_more false q (reply.NotAll k found) e = absurd (refused_ends q k found e)
 prepare_more false q r e = absurd (cc)
 
-touched_within : (i m : ℕ) (r : Reply) → i < m → touched_after i r ≤ m
-touched_within i m reply.Applied h = omega arith
-touched_within i m reply.Fault h = omega arith
-touched_within i m (reply.NotMet found) h = omega arith
-touched_within i m (reply.Found found) h = omega arith
-touched_within i m (reply.Rows rows) h = omega arith
-touched_within i m reply.NoMemory h = omega arith
-
-going_prepare : (p : Work) (i n : ℕ) (s : PrepareStep) → n ≤ length p.writes → (s ≡ prepare.More → i + 1 < length p.writes) → IsCommitPending p (after_prepare p i n s)
+going_prepare : (p : Work) (i n : ℕ) (s : PrepareStep) → n ≤ length p.writes → (s ≡ prepare.More → i + 1 < groups_of p) → IsCommitPending p (after_prepare p i n s)
 going_prepare p i n prepare.More most h = h refl
 going_prepare p i n prepare.Done most h = going_checking p 0
 going_prepare p i n s most h = most
@@ -153,6 +140,7 @@ validate_more more (Some c) reply.Applied e = judged_more more (difference_in c 
 validate_more more (Some c) (reply.NotMet found) e = judged_more more (difference_in c (reply.NotMet found)) e
 validate_more more (Some c) (reply.Found found) e = judged_more more (difference_in c (reply.Found found)) e
 validate_more more (Some c) (reply.Rows rows) e = judged_more more (difference_in c (reply.Rows rows)) e
+validate_more more (Some c) (reply.NotAll place there) e = judged_more more (difference_in c (reply.NotAll place there)) e
 validate_more more None r e = absurd (cc)
 
 judges_more : (want v : ValidateStep) → Judges want v → v ≡ validate.More → want ≡ validate.More
@@ -195,8 +183,8 @@ going_abort p a n r h e = absurd (cc)
 -- a COMMIT that goes on has a call pending
 pub commit_goes : (p : Work) (s : Stage) (r : Reply) (after : Stage) → IsCommitPending p s → IsNext p s r after → ended_at (commit_step p s r) ≡ None → IsCommitPending p after
 commit_goes p (Preparing i) r after h is e =
-    subst (IsCommitPending p) (sym is) (going_prepare p i (touched_after i r) (prepare_step (nat_lt (i + 1) (length p.writes)) (slice_get (prepares p) i) r) (touched_within i (length p.writes) r h)
-    (λ k. less_of_test (i + 1) (length p.writes) (prepare_more (nat_lt (i + 1) (length p.writes)) (slice_get (prepares p) i) r k)))
+    subst (IsCommitPending p) (sym is) (going_prepare p i (touched_after (slice_get (prepares p) i) (writes_before p i) r) (prepare_step (nat_lt (i + 1) (groups_of p)) (slice_get (prepares p) i) r) (touched_within p i r h)
+    (λ k. less_of_test (i + 1) (groups_of p) (prepare_more (nat_lt (i + 1) (groups_of p)) (slice_get (prepares p) i) r k)))
 commit_goes p (Checking i) r after h (v, judges, is) e =
     subst (IsCommitPending p) (sym is) (going_check p i v (λ k. less_of_test (i + 1) (length (checks p)) (validate_more (nat_lt (i + 1) (length (checks p))) (slice_get (checks p) i) r (judges_more _ v judges k))))
 commit_goes p (Deciding d) r after h is e = subst (IsCommitPending p) (sym is) (going_decide p (decide_next p.id d r) (decide_goes p d r) e)

@@ -7,7 +7,7 @@ use Rattle.sdb_model.specs.Refused.{refusal_of, refusal_on}
 use Rattle.sdb_exec.specs.declared.plan.PlanStep.TheVariants.{Finished, Read as Wants}
 use Rattle.sdb_exec.specs.Plans.{Planned, has_all_literals}
 use Rattle.sdb_model.specs.Reads.{access_of}
-use Rattle.sdb_phases.specs.Work.{Work}
+use Rattle.sdb_phases.specs.Work.{Work, groups_of}
 use Rattle.sdb_phases.specs.Checks.{checks}
 use Rattle.sdb_phases.specs.Steps.{decide_request_at}
 use Rattle.sdb_phases.specs.Commit.{Stage, Preparing, Checking, Deciding, Forward, Stopping, Back, Over}
@@ -50,10 +50,10 @@ IsKeyRead read_set (access.Scan span) = Unit {0}
 
 -- A COMMIT is pending: a call of it is, and those that are left to it are within what it writes and checks.
 abbrev pub IsCommitPending : Work → Stage → Type 0
-IsCommitPending p (Preparing i) = i < length p.writes
+IsCommitPending p (Preparing i) = i < groups_of p
 IsCommitPending p (Checking i) = i < length (checks p)
 IsCommitPending p (Deciding d) = IsSome (decide_request_at p.id p.now d)
-IsCommitPending p (Forward i) = i < length p.writes
+IsCommitPending p (Forward i) = i < groups_of p
 IsCommitPending p (Stopping a n) = n ≤ length p.writes
 IsCommitPending p (Back a n i) = (i < n) × (n ≤ length p.writes)
 IsCommitPending p (Over a) = ⊥

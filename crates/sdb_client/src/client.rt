@@ -1,6 +1,7 @@
 //! A client.
 ghost use Rattle.std.specs.Prelude.{◌≡◌, ◌≢◌, ◌<◌, ◌^◌, ◌||◌, IfSome, IsSome, Some, None, is_some, length, true, false};
 ghost use Rattle.std.specs.Option.{option_copied};
+ghost use Rattle.sdb_types.specs.Contents.{IsWellFormed};
 ghost use Rattle.sdb_model.specs.declared.answer.Answer.TheVariants as answer;
 ghost use Rattle.sdb_exec.specs.Plans.{has_all_literals};
 ghost use Rattle.sdb_phases.specs.Steps.{CanGet};
@@ -119,6 +120,7 @@ impl Client {
     #[tactic(auto, using(crate::proofs::Waits::client_waits))]
     pub fn pending(&self) -> Option<&Request>
         ensures pending { option_copied result ≡ client_pending self.now }
+        ensures formed { IfSome result (λ request. IsWellFormed request.now) }
         ensures idle { client_pending self.now ≡ None → IsIdle self.now }
     {
         match (&self.vacuum, &self.txn) {

@@ -32,6 +32,7 @@ pub fn prove_order(reply: &Reply)
     match reply {
         Reply::Found(Some(rec)) => have_order(&rec.columns),
         Reply::NotMet(Some(rec)) => have_order(&rec.columns),
+        Reply::NotAll(_, Some(rec)) => have_order(&rec.columns),
         Reply::Rows(rows) => all_have_order(rows.as_slice()),
         _ => {}
     }

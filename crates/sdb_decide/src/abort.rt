@@ -1,12 +1,13 @@
 //! Putting ABORTED, and rolling back.
-ghost use Rattle.std.specs.Prelude.{◌≡◌, ◌≤◌, ◌<◌, ◌+◌, [], map, IfOk, IsSome, length, slice_get, nat_lt};
+ghost use Rattle.std.specs.Prelude.{◌≡◌, ◌≤◌, ◌<◌, ◌+◌, ◌++◌, map, IfOk, OnOk, IsSome, length, slice_get, nat_lt};
 ghost use Rattle.std.specs.Option.{option_copied};
+ghost use Rattle.sdb_record.specs.Groups.{ungrouped};
 ghost use Rattle.sdb_phases.specs.Work.{back_of, abort_of};
 ghost use Rattle.sdb_phases.specs.Steps.{CanGet, abort_request, abort_next, abort_phase, aborts_more};
 ghost use Rattle.sdb_phases.specs.declared.step.AbortPhase.TheVariants.{Idle};
 
 use sdb_phases::{AbortPhase, abort_row, back};
-use sdb_record::{Write, Writes};
+use sdb_record::{Groups, Write, Writes};
 use sdb_types::{NoMemory, Reply, Request, Seq, TxId};
 use std::alloc::Global;
 use std::marker::Model;
@@ -45,12 +46,23 @@ impl Model for Abort {
     ghost invariant = { λ a. a.upto ≤ length a.asks };
 }
 
-fn backs(alloc: Global, writes: &[Write], id: TxId) -> Result<Seq<Request>, NoMemory>
-    ensures { IfOk result (λ asks. asks ≡ map (back_of id) writes.now) }
+// The roll backs of a group, in order, behind others.
+fn push_backs(asks: &mut Seq<Request>, group: &[Write], id: TxId) -> Result<(), NoMemory>
+    ensures { OnOk result (asks.new ≡ asks.old ++ map (back_of id) group.now) }
+{
+    for write in group {
+        asks.push(back(write, id)?)?;
+    }
+    Ok(())
+}
+
+// The roll back of each write, in the order of the groups.
+fn backs(alloc: Global, groups: &[Writes], id: TxId) -> Result<Seq<Request>, NoMemory>
+    ensures { IfOk result (λ asks. asks ≡ map (back_of id) (ungrouped groups.now)) }
 {
     let mut asks = Seq::new(alloc);
-    for write in writes {
-        asks.push(back(write, id)?)?;
+    for group in groups {
+        push_backs(&mut asks, group.as_slice(), id)?;
     }
     Ok(asks)
 }
@@ -66,13 +78,13 @@ fn started(with_row: bool) -> AbortPhase
 }
 
 impl Abort {
-    /// The abort of a transaction with these writes, whose COMMIT was accepted at a moment from 0 to 2^53.
-    pub fn new(alloc: Global, writes: &Writes, id: TxId, now: i64) -> Result<Abort, NoMemory>
-        ensures { IfOk result (λ a. a ≡ record { row = abort_of id now; asks = map (back_of id) writes.now; phase = Idle; at = 0; upto = 0 }) }
+    /// The abort of a transaction with these groups of writes, whose COMMIT was accepted at a moment from 0 to 2^53.
+    pub fn new(alloc: Global, groups: &Groups, id: TxId, now: i64) -> Result<Abort, NoMemory>
+        ensures { IfOk result (λ a. a ≡ record { row = abort_of id now; asks = map (back_of id) (ungrouped groups.now); phase = Idle; at = 0; upto = 0 }) }
     {
         Ok(Abort {
             row: abort_row(alloc, id, now)?,
-            asks: backs(alloc, writes.as_slice(), id)?,
+            asks: backs(alloc, groups.as_slice(), id)?,
             phase: AbortPhase::Idle,
             at: 0,
             upto: 0,

@@ -2,16 +2,16 @@
 ghost use Rattle.std.specs.Prelude.{◌≡◌, ◌+◌, [], map, All, IfOk, IsSome, length, slice_get, nat_lt};
 ghost use Rattle.std.specs.Option.{option_copied};
 ghost use Rattle.sdb_record.specs.Rolls.{IsWrite};
-ghost use Rattle.sdb_phases.specs.Work.{forward_of};
+ghost use Rattle.sdb_phases.specs.Work.{forward_of, forwards_of};
 ghost use Rattle.sdb_phases.specs.Steps.{CanGet, walk_request};
 
 use sdb_phases::forward;
-use sdb_record::{Write, Writes};
-use sdb_types::{NoMemory, Reply, Request, Seq, TxId};
+use sdb_record::{Groups, Write, Writes};
+use sdb_types::{Batch, NoMemory, Reply, Request, Seq, TxId, sent};
 use std::alloc::Global;
 use std::marker::Model;
 
-/// The roll forward of each write, in order. What they are answered has no effect.
+/// The roll forward of each group of writes, in order. What they are answered has no effect.
 pub struct Commit {
     asks: Seq<Request>,
     at: usize,
@@ -32,25 +32,38 @@ impl Model for Commit {
     ghost view = { λ c. record { asks = c.asks; at = c.at } };
 }
 
-fn forwards(alloc: Global, writes: &[Write], id: TxId, now: i64) -> Result<Seq<Request>, NoMemory>
-    requires { All IsWrite writes.now }
-    ensures { IfOk result (λ asks. asks ≡ map (forward_of id now) writes.now) }
+// The put of each write of a group, in order.
+fn puts(alloc: Global, group: &[Write], id: TxId, now: i64) -> Result<Batch, NoMemory>
+    requires { All IsWrite group.now }
+    ensures { IfOk result (λ puts. puts ≡ map (forward_of id now) group.now) }
+{
+    let mut puts = Batch::new(alloc);
+    for write in group {
+        puts.push(forward(alloc, write, id, now)?)?;
+    }
+    Ok(puts)
+}
+
+// The roll forward of each group, in order.
+fn forwards(alloc: Global, groups: &[Writes], id: TxId, now: i64) -> Result<Seq<Request>, NoMemory>
+    requires { All (All IsWrite) groups.now }
+    ensures { IfOk result (λ asks. asks ≡ map (forwards_of id now) groups.now) }
 {
     let mut asks = Seq::new(alloc);
-    for write in writes {
-        asks.push(forward(alloc, write, id, now)?)?;
+    for group in groups {
+        asks.push(sent(puts(alloc, group.as_slice(), id, now)?))?;
     }
     Ok(asks)
 }
 
 impl Commit {
-    /// The roll forward of these writes, for a transaction whose COMMIT was accepted at a moment from 0 to 2^53.
-    pub fn new(alloc: Global, writes: &Writes, id: TxId, now: i64) -> Result<Commit, NoMemory>
-        requires { All IsWrite writes.now }
-        ensures { IfOk result (λ c. c ≡ record { asks = map (forward_of id now) writes.now; at = 0 }) }
+    /// The roll forward of these groups of writes, for a transaction whose COMMIT was accepted at a moment from 0 to 2^53.
+    pub fn new(alloc: Global, groups: &Groups, id: TxId, now: i64) -> Result<Commit, NoMemory>
+        requires { All (All IsWrite) groups.now }
+        ensures { IfOk result (λ c. c ≡ record { asks = map (forwards_of id now) groups.now; at = 0 }) }
     {
         Ok(Commit {
-            asks: forwards(alloc, writes.as_slice(), id, now)?,
+            asks: forwards(alloc, groups.as_slice(), id, now)?,
             at: 0,
         })
     }

@@ -29,6 +29,7 @@ module _ (id : TxId) (P : DecidePhase → Reply → DecidePhase × DecideStep �
   pub by_rows : (d : DecidePhase) (r : Reply) → P d r (decide_next id d r)
   by_rows phase.Put (reply.Found found) = rows.no_memory (reply.Found found)
   by_rows phase.Put (reply.Rows found) = rows.no_memory (reply.Rows found)
+  by_rows phase.Put (reply.NotAll place there) = rows.no_memory (reply.NotAll place there)
   by_rows phase.Put reply.Applied = rows.put_applied
   by_rows phase.Put (reply.NotMet None) = rows.no_memory (reply.NotMet None)
   by_rows phase.Put (reply.NotMet (Some row)) = rows.put_row row
@@ -37,12 +38,14 @@ module _ (id : TxId) (P : DecidePhase → Reply → DecidePhase × DecideStep �
   by_rows phase.Look (reply.Found None) = rows.look_none
   by_rows phase.Look (reply.Found (Some row)) = rows.look_row row
   by_rows phase.Look (reply.Rows found) = rows.unknown phase.Look (reply.Rows found)
+  by_rows phase.Look (reply.NotAll place there) = rows.unknown phase.Look (reply.NotAll place there)
   by_rows phase.Look reply.Applied = rows.unknown phase.Look reply.Applied
   by_rows phase.Look (reply.NotMet found) = rows.unknown phase.Look (reply.NotMet found)
   by_rows phase.Look reply.Fault = rows.unknown phase.Look reply.Fault
   by_rows phase.Look reply.NoMemory = rows.unknown phase.Look reply.NoMemory
   by_rows phase.Abort (reply.Found found) = rows.unknown phase.Abort (reply.Found found)
   by_rows phase.Abort (reply.Rows found) = rows.unknown phase.Abort (reply.Rows found)
+  by_rows phase.Abort (reply.NotAll place there) = rows.unknown phase.Abort (reply.NotAll place there)
   by_rows phase.Abort reply.Applied = rows.abort_applied
   by_rows phase.Abort (reply.NotMet None) = rows.unknown phase.Abort (reply.NotMet None)
   by_rows phase.Abort (reply.NotMet (Some row)) = rows.abort_row row
@@ -51,6 +54,7 @@ module _ (id : TxId) (P : DecidePhase → Reply → DecidePhase × DecideStep �
   by_rows phase.Again (reply.Found None) = rows.unknown phase.Again (reply.Found None)
   by_rows phase.Again (reply.Found (Some row)) = rows.again_row row
   by_rows phase.Again (reply.Rows found) = rows.unknown phase.Again (reply.Rows found)
+  by_rows phase.Again (reply.NotAll place there) = rows.unknown phase.Again (reply.NotAll place there)
   by_rows phase.Again reply.Applied = rows.unknown phase.Again reply.Applied
   by_rows phase.Again (reply.NotMet found) = rows.unknown phase.Again (reply.NotMet found)
   by_rows phase.Again reply.Fault = rows.unknown phase.Again reply.Fault

@@ -15,7 +15,8 @@ use Rattle.sdb_record.specs.Rolls.{prepared_record, forward_record, state_of_cha
 use Rattle.sdb_record.proofs.Public.{forward-prepared-version, prepared-version}
 use Rattle.sdb_phases.specs.declared.check.Check.{Check}
 use Rattle.sdb_phases.specs.declared.step.DecidePhase.TheVariants as phase
-use Rattle.sdb_phases.specs.Work.{Work, prepare_of, forward_of, back_of, decide_of, abort_of}
+use Rattle.sdb_record.specs.Groups.{grouped, in_groups}
+use Rattle.sdb_phases.specs.Work.{Work, prepares_of, forwards_of, back_of, decide_of, abort_of}
 use Rattle.sdb_phases.specs.Checks.{checks, check_of_read, check_of_scan}
 use Rattle.sdb_record.specs.Among.{is_written}
 use Rattle.sdb_phases.specs.Commit.{Stage, Preparing, Checking, Deciding, Forward, Stopping, Back, Over, pending}
@@ -31,13 +32,17 @@ versioned_other id now s rec c version e =
     let so = ap (is_version id s) same in
     cc
 
-prepare_other : (id : TxId) (now : ℤ) (o : Option Write) → option_map (prepare_of id now) o ≢ Some (decide_of id now)
+prepare_other : (id : TxId) (now : ℤ) (o : Option (List Write)) → option_map (prepares_of id now) o ≢ Some (decide_of id now)
 prepare_other id now None e = cc
-prepare_other id now (Some w) e = versioned_other id now (state_of_change w.change) (prepared_record w id now) _ (prepared-version w id now) e
+prepare_other id now (Some []) e = cc
+prepare_other id now (Some (w ∷ [])) e = versioned_other id now (state_of_change w.change) (prepared_record w id now) _ (prepared-version w id now) e
+prepare_other id now (Some (v ∷ w ∷ ws)) e = cc
 
-forward_other : (id : TxId) (now : ℤ) (o : Option Write) → option_map (forward_of id now) o ≢ Some (decide_of id now)
+forward_other : (id : TxId) (now : ℤ) (o : Option (List Write)) → option_map (forwards_of id now) o ≢ Some (decide_of id now)
 forward_other id now None e = cc
-forward_other id now (Some w) e = versioned_other id now state.Committed (forward_record (prepared_record w id now) now) _ (forward-prepared-version w id now now) e
+forward_other id now (Some []) e = cc
+forward_other id now (Some (v ∷ w ∷ ws)) e = cc
+forward_other id now (Some (w ∷ [])) e = versioned_other id now state.Committed (forward_record (prepared_record w id now) now) _ (forward-prepared-version w id now now) e
 
 undo_other : (id : TxId) (now : ℤ) (key : Key) (s : State) (base : Option Record) → Some (undo (condition.Version id s) key base) ≢ Some (decide_of id now)
 undo_other id now key s None e = cc
@@ -73,14 +78,14 @@ check_other p i e =
 
 -- each other stage, and what is pending there
 pub asks_deciding_put : (p : Work) (s : Stage) → pending p s ≡ Some (decide_of p.id p.now) → s ≡ Deciding phase.Put
-asks_deciding_put p (Preparing i) e = absurd (prepare_other p.id p.now (slice_get p.writes i) (sym (slice_get-map (prepare_of p.id p.now) p.writes i) ∙ e))
+asks_deciding_put p (Preparing i) e = absurd (prepare_other p.id p.now (slice_get (grouped p.writes) i) (sym (slice_get-map (prepares_of p.id p.now) (grouped p.writes) i) ∙ e))
 asks_deciding_put p (Checking i) e = absurd (check_other p i e)
 asks_deciding_put p (Deciding phase.Put) e = refl
 asks_deciding_put p (Deciding phase.Look) e = cc
 asks_deciding_put p (Deciding phase.Abort) e = absurd (rows_other p.id p.now e)
 asks_deciding_put p (Deciding phase.Again) e = cc
 asks_deciding_put p (Deciding phase.Ended) e = cc
-asks_deciding_put p (Forward i) e = absurd (forward_other p.id p.now (slice_get p.writes i) (sym (slice_get-map (forward_of p.id p.now) p.writes i) ∙ e))
+asks_deciding_put p (Forward i) e = absurd (forward_other p.id p.now (slice_get (grouped p.writes) i) (sym (slice_get-map (forwards_of p.id p.now) (grouped p.writes) i) ∙ e))
 asks_deciding_put p (Stopping a n) e = absurd (rows_other p.id p.now e)
-asks_deciding_put p (Back a n i) e = absurd (back_other p.id p.now (slice_get p.writes i) (sym (slice_get-map (back_of p.id) p.writes i) ∙ e))
+asks_deciding_put p (Back a n i) e = absurd (back_other p.id p.now (slice_get (in_groups p.writes) i) (sym (slice_get-map (back_of p.id) (in_groups p.writes) i) ∙ e))
 asks_deciding_put p (Over a) e = cc

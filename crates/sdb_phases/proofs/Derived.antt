@@ -6,9 +6,10 @@ use Rattle.sdb_record.specs.Coordinator.{coordinator_key_of}
 use Rattle.sdb_phases.specs.declared.step.Outcome.{Outcome}
 use Rattle.sdb_phases.specs.declared.step.Outcome.TheVariants as outcome
 use Rattle.sdb_phases.specs.declared.step.DecidePhase.TheVariants as phase
-use Rattle.sdb_phases.specs.Work.{Work}
+use Rattle.sdb_phases.specs.Work.{Work, groups_of}
+use Rattle.sdb_phases.proofs.Groups.{few_groups}
 use Rattle.sdb_phases.specs.Commit.{Stage, Preparing, Checking, Deciding, Forward, Stopping, Back, Over, after}
-use Rattle.sdb_phases.specs.CommitLaws.{IsWork, Seen, seen, AreReplies, StageInvariant, IsLost, is_unrecorded, may_undo, writes_of, reads_of, most_calls, exact_calls}
+use Rattle.sdb_phases.specs.CommitLaws.{IsWork, Seen, seen, AreReplies, StageInvariant, IsLost, is_unrecorded, may_undo, reads_of, most_calls, exact_calls}
 use Rattle.sdb_phases.proofs.CommitInvariants.{agrees}
 
 pub calls_are : (p : Work) (past : List Reply) → (seen p past).calls ≡ length past
@@ -22,11 +23,11 @@ pub prepares_in_order : (p : Work) (past : List Reply) (i : ℕ) → IsWork p �
 prepares_in_order p past i is correct e =
     let (calls, within, passed, put) = lies_at p past (Preparing i) is correct e in (sym (calls_are p past) ∙ calls, passed)
 
-pub checks_in_order : (p : Work) (past : List Reply) (i : ℕ) → IsWork p → AreReplies p past → after p past ≡ Checking i → (length past ≡ writes_of p + i) × ((seen p past).passed ≡ true)
+pub checks_in_order : (p : Work) (past : List Reply) (i : ℕ) → IsWork p → AreReplies p past → after p past ≡ Checking i → (length past ≡ groups_of p + i) × ((seen p past).passed ≡ true)
 checks_in_order p past i is correct e =
     let (calls, within, passed, put) = lies_at p past (Checking i) is correct e in (sym (calls_are p past) ∙ calls, passed)
 
-pub decides_after_checks : (p : Work) (past : List Reply) → IsWork p → AreReplies p past → after p past ≡ Deciding phase.Put → (length past ≡ writes_of p + reads_of p) × ((seen p past).passed ≡ true)
+pub decides_after_checks : (p : Work) (past : List Reply) → IsWork p → AreReplies p past → after p past ≡ Deciding phase.Put → (length past ≡ groups_of p + reads_of p) × ((seen p past).passed ≡ true)
 decides_after_checks p past is correct e =
     let (calls, passed, put) = lies_at p past (Deciding phase.Put) is correct e in (sym (calls_are p past) ∙ calls, passed)
 
@@ -80,7 +81,7 @@ bound p h (Deciding phase.Look) (calls, faulted, put) = omega arith
 bound p h (Deciding phase.Abort) (calls, faulted, put) = omega arith
 bound p h (Deciding phase.Again) (calls, faulted, put, failed) = omega arith
 bound p h (Deciding phase.Ended) s = absurd s
-bound p h (Forward i) (within, learned, most, exact) = omega arith
+bound p h (Forward i) (within, learned, most, exact) = omega (arith, few_groups p)
 bound p h (Stopping a n) (safe, caused, within, most) = omega arith
 bound p h (Back a n i) (may, caused, in_n, within, most) = omega arith
 bound p h (Over outcome.Committed) s = s.1

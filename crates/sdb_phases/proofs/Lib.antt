@@ -2,6 +2,9 @@ mod RecoverRows
 mod DecideRows
 mod CommitInvariants
 mod Derived
+mod Groups
+mod Refusals
+mod Formed
 mod RecoverInvariants
 mod RecoverAnswers
 mod Starved

@@ -34,6 +34,7 @@ starved-step p (Stopping a n) reply.Fault is = refl
 starved-step p (Stopping a n) reply.NoMemory is = refl
 starved-step p (Stopping a n) (reply.Found found) is = refl
 starved-step p (Stopping a n) (reply.Rows rows) is = refl
+starved-step p (Stopping a n) (reply.NotAll place there) is = refl
 starved-step p (Back a n i) r is = starved-back a n (i + 1)
 starved-step p (Over a) r is = refl
 
@@ -52,5 +53,6 @@ stopped-step p (Stopping a n) reply.Fault is = refl
 stopped-step p (Stopping a n) reply.NoMemory is = refl
 stopped-step p (Stopping a n) (reply.Found found) is = refl
 stopped-step p (Stopping a n) (reply.Rows rows) is = refl
+stopped-step p (Stopping a n) (reply.NotAll place there) is = refl
 stopped-step p (Back a n i) r is = stopped-choice (nat_lt (i + 1) n) (Back a n (i + 1)) (Over a) refl refl
 stopped-step p (Over a) r is = refl

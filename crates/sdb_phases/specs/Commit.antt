@@ -13,7 +13,7 @@ use Rattle.sdb_phases.specs.declared.step.DecideStep.{DecideStep}
 use Rattle.sdb_phases.specs.declared.step.DecideStep.TheVariants as decide
 use Rattle.sdb_phases.specs.declared.step.DecidePhase.{DecidePhase}
 use Rattle.sdb_phases.specs.declared.step.DecidePhase.TheVariants as phase
-use Rattle.sdb_phases.specs.Work.{Work, prepares, forwards, backs, abort_of}
+use Rattle.sdb_phases.specs.Work.{Work, prepares, forwards, backs, abort_of, groups_of, writes_before}
 use Rattle.sdb_phases.specs.Checks.{checks}
 use Rattle.sdb_phases.specs.Steps.{prepare_step, touched_after, validate_step, decide_request_at, decide_next}
 
@@ -32,10 +32,10 @@ abbrev pub checking : Work → ℕ → Stage
 checking p i = if nat_lt i (length (checks p)) then Checking i else Deciding phase.Put
 
 abbrev pub preparing : Work → ℕ → Stage
-preparing p i = if nat_lt i (length p.writes) then Preparing i else checking p 0
+preparing p i = if nat_lt i (groups_of p) then Preparing i else checking p 0
 
 abbrev pub forward : Work → ℕ → Stage
-forward p i = if nat_lt i (length p.writes) then Forward i else Over outcome.Committed
+forward p i = if nat_lt i (groups_of p) then Forward i else Over outcome.Committed
 
 abbrev pub back : Outcome → (touched i : ℕ) → Stage
 back a n i = if nat_lt i n then Back a n i else Over a
@@ -86,7 +86,7 @@ after_abort a n r = Over a
 -- where a reply leads
 abbrev pub step : Work → Stage → Reply → Stage
 step p (Preparing i) r =
-    after_prepare p i (touched_after i r) (prepare_step (nat_lt (i + 1) (length p.writes)) (slice_get (prepares p) i) r)
+    after_prepare p i (touched_after (slice_get (prepares p) i) (writes_before p i) r) (prepare_step (nat_lt (i + 1) (groups_of p)) (slice_get (prepares p) i) r)
 step p (Checking i) r =
     after_check p i (validate_step (nat_lt (i + 1) (length (checks p))) (slice_get (checks p) i) r)
 step p (Deciding d) r = decided p (decide_next p.id d r)

@@ -11,7 +11,7 @@ use Rattle.sdb_phases.specs.declared.step.Outcome.TheVariants as outcome
 use Rattle.sdb_phases.specs.declared.step.ValidateStep.{ValidateStep}
 use Rattle.sdb_phases.specs.declared.step.ValidateStep.TheVariants as validate
 use Rattle.sdb_phases.specs.declared.step.DecidePhase.TheVariants as phase
-use Rattle.sdb_phases.specs.Work.{Work}
+use Rattle.sdb_phases.specs.Work.{Work, groups_of}
 use Rattle.sdb_phases.specs.Checks.{checks}
 use Rattle.sdb_phases.specs.Steps.{CanGet, validate_step}
 use Rattle.sdb_phases.specs.Commit.{Stage, Preparing, Checking, Deciding, Forward, Stopping, Back, Over, pending, after}
@@ -139,6 +139,7 @@ is_unrecorded h = without_effect h.put || h.aborted
 abbrev pub may_undo : Seen → Bool
 may_undo h = h.aborted || (h.stopped && without_effect h.put)
 
+-- how many keys it writes
 abbrev pub writes_of : Work → ℕ
 writes_of p = length p.writes
 
@@ -148,11 +149,11 @@ reads_of p = length (checks p)
 
 -- the most calls that a COMMIT makes
 abbrev pub most_calls : Work → ℕ
-most_calls p = 2 * writes_of p + reads_of p + 4
+most_calls p = groups_of p + writes_of p + reads_of p + 4
 
 -- the calls of a COMMIT that is answered Committed, where none faulted
 abbrev pub exact_calls : Work → ℕ
-exact_calls p = 2 * writes_of p + reads_of p + 1
+exact_calls p = 2 * groups_of p + reads_of p + 1
 
 -- Why a COMMIT that isn't committed is answered so: a conflict is of a prepare that was not met or of a check that failed;
 -- another has put the row ABORTED; a call faulted. Out of memory needs no reason.
@@ -182,14 +183,14 @@ IsLost a = ⊥
 
 -- What holds at a stage, by what the replies show.
 abbrev pub StageInvariant : Work → Seen → Stage → Type 0
-StageInvariant p h (Preparing i) = (h.calls ≡ i) × (i < writes_of p) × (h.passed ≡ true) × (h.put ≡ None)
-StageInvariant p h (Checking i) = (h.calls ≡ writes_of p + i) × (i < reads_of p) × (h.passed ≡ true) × (h.put ≡ None)
-StageInvariant p h (Deciding phase.Put) = (h.calls ≡ writes_of p + reads_of p) × (h.passed ≡ true) × (h.put ≡ None)
-StageInvariant p h (Deciding phase.Look) = (h.calls ≡ writes_of p + reads_of p + 1) × (h.faulted ≡ true) × (h.put ≡ Some reply.Fault)
-StageInvariant p h (Deciding phase.Abort) = (h.calls ≡ writes_of p + reads_of p + 2) × (h.faulted ≡ true) × (h.put ≡ Some reply.Fault)
-StageInvariant p h (Deciding phase.Again) = (h.calls ≡ writes_of p + reads_of p + 3) × (h.faulted ≡ true) × (h.put ≡ Some reply.Fault) × (h.failed ≡ true)
+StageInvariant p h (Preparing i) = (h.calls ≡ i) × (i < groups_of p) × (h.passed ≡ true) × (h.put ≡ None)
+StageInvariant p h (Checking i) = (h.calls ≡ groups_of p + i) × (i < reads_of p) × (h.passed ≡ true) × (h.put ≡ None)
+StageInvariant p h (Deciding phase.Put) = (h.calls ≡ groups_of p + reads_of p) × (h.passed ≡ true) × (h.put ≡ None)
+StageInvariant p h (Deciding phase.Look) = (h.calls ≡ groups_of p + reads_of p + 1) × (h.faulted ≡ true) × (h.put ≡ Some reply.Fault)
+StageInvariant p h (Deciding phase.Abort) = (h.calls ≡ groups_of p + reads_of p + 2) × (h.faulted ≡ true) × (h.put ≡ Some reply.Fault)
+StageInvariant p h (Deciding phase.Again) = (h.calls ≡ groups_of p + reads_of p + 3) × (h.faulted ≡ true) × (h.put ≡ Some reply.Fault) × (h.failed ≡ true)
 StageInvariant p h (Deciding phase.Ended) = ⊥
-StageInvariant p h (Forward i) = (i < writes_of p) × (h.committed ≡ true) × (h.calls ≤ writes_of p + reads_of p + 4 + i) × (h.faulted ≡ false → h.calls ≡ writes_of p + reads_of p + 1 + i)
-StageInvariant p h (Stopping a n) = (without_effect h.put ≡ true) × IsCaused p h a × (n ≤ writes_of p) × (h.calls ≤ writes_of p + reads_of p + 1)
-StageInvariant p h (Back a n i) = (may_undo h ≡ true) × IsCaused p h a × (i < n) × (n ≤ writes_of p) × (h.calls ≤ writes_of p + reads_of p + 4 + i)
+StageInvariant p h (Forward i) = (i < groups_of p) × (h.committed ≡ true) × (h.calls ≤ groups_of p + reads_of p + 4 + i) × (h.faulted ≡ false → h.calls ≡ groups_of p + reads_of p + 1 + i)
+StageInvariant p h (Stopping a n) = (without_effect h.put ≡ true) × IsCaused p h a × (n ≤ writes_of p) × (h.calls ≤ groups_of p + reads_of p + 1)
+StageInvariant p h (Back a n i) = (may_undo h ≡ true) × IsCaused p h a × (i < n) × (n ≤ writes_of p) × (h.calls ≤ groups_of p + reads_of p + 4 + i)
 StageInvariant p h (Over a) = EndsSo p h a

@@ -1,10 +1,10 @@
 -- The step of each phase of a COMMIT, from a reply.
-use Rattle.std.specs.Prelude.{ℕ, ℤ, ◌+◌, Bool, true, false, if◌then◌else◌, List, [], length, nat_lt, Option, Some, None, Result, Ok, Err, slice_get}
-use Rattle.std.specs.Option.{option_map}
+use Rattle.std.specs.Prelude.{ℕ, ℤ, ◌+◌, Bool, true, false, if◌then◌else◌, List, [], drop, length, nat_lt, sum_by, Option, Some, None, Result, Ok, Err, slice_get}
+use Rattle.std.specs.Option.{option_map, option_map_or}
 use Rattle.sdb_phases.specs.Types.{Decided, Key, Record, Reply, Request, TxId}
 use Rattle.sdb_types.specs.declared.record.Request.TheVariants as ask
 use Rattle.sdb_types.specs.declared.record.Reply.TheVariants as reply
-use Rattle.sdb_types.specs.Contents.{CanAnswer}
+use Rattle.sdb_types.specs.Contents.{CanAnswer, put_at}
 use Rattle.sdb_record.specs.declared.coordinator.Decision.TheVariants as decision
 use Rattle.sdb_record.specs.Coordinator.{coordinator_key_of, decision_in}
 use Rattle.sdb_phases.specs.declared.check.Check.{Check}
@@ -37,22 +37,34 @@ pub record Prepares : Type 0 where
 abbrev pub prepare_request : Prepares → Option Request
 prepare_request p = slice_get p.asks p.at
 
-abbrev pub refused : Option Request → Option Record → PrepareStep
-refused (Some (ask.PutIf rec condition)) found = prepare.Conflict rec.key found
-refused q found = prepare.NoMemory
+-- the conflict at the key of the put of that place, from 1
+abbrev pub refused : Option Request → ℕ → Option Record → PrepareStep
+refused (Some (ask.PutIf rec condition)) k found = prepare.Conflict rec.key found
+refused (Some (ask.PutAll batch)) k found = option_map_or (λ p. prepare.Conflict p.rec.key found) (put_at batch k) prepare.NoMemory
+refused q k found = prepare.NoMemory
 
--- A prepare that isn't met is a conflict at its key, with what is there.
+-- A prepare that isn't met is a conflict at the key whose condition failed, with what is there.
 abbrev pub prepare_step : (more : Bool) → Option Request → Reply → PrepareStep
 prepare_step more q reply.Applied = if more then prepare.More else prepare.Done
-prepare_step more q (reply.NotMet found) = refused q found
+prepare_step more q (reply.NotMet found) = refused q 1 found
+prepare_step more q (reply.NotAll k found) = refused q k found
 prepare_step more q reply.Fault = prepare.Faulted
 prepare_step more q r = prepare.NoMemory
 
--- a prepare that was applied or faulted may have accepted effect
-abbrev pub touched_after : ℕ → Reply → ℕ
-touched_after n reply.Applied = n + 1
-touched_after n reply.Fault = n + 1
-touched_after n r = n
+-- how many records a prepare puts
+abbrev pub puts_of : Option Request → ℕ
+puts_of (Some (ask.PutAll batch)) = length batch
+puts_of q = 1
+
+-- how many records the prepares from that place on put
+abbrev pub puts_from : List Request → ℕ → ℕ
+puts_from asks at = sum_by (λ q. puts_of (Some q)) (drop at asks)
+
+-- The writes of a prepare that was applied or faulted may have accepted effect.
+abbrev pub touched_after : Option Request → ℕ → Reply → ℕ
+touched_after q n reply.Applied = n + puts_of q
+touched_after q n reply.Fault = n + puts_of q
+touched_after q n r = n
 
 abbrev pub prepare_result : Prepares → Reply → PrepareStep
 prepare_result p r = prepare_step (nat_lt (p.at + 1) (length p.asks)) (prepare_request p) r
@@ -67,7 +79,7 @@ prepare_at p r = 0
 
 -- it continues where the prepare was applied, and else has ended
 abbrev pub prepare_next : Prepares → Reply → Prepares
-prepare_next p r = record { asks = prepare_left p r; at = prepare_at p r; touched = touched_after p.touched r }
+prepare_next p r = record { asks = prepare_left p r; at = prepare_at p r; touched = touched_after (prepare_request p) p.touched r }
 
 ---- Validate
 

@@ -1,12 +1,13 @@
 -- What is committed, and the calls that write it.
-use Rattle.std.specs.Prelude.{ℤ, List, map}
-use Rattle.sdb_phases.specs.Types.{Condition, Read, Request, Scan, TxId, Write}
+use Rattle.std.specs.Prelude.{ℕ, ℤ, List, length, map, take}
+use Rattle.sdb_phases.specs.Types.{Read, Request, Scan, TxId, Write}
 use Rattle.sdb_types.specs.declared.record.Condition.TheVariants as condition
 use Rattle.sdb_types.specs.declared.record.Request.TheVariants as ask
 use Rattle.sdb_record.specs.declared.coordinator.Decision.TheVariants as decision
 use Rattle.sdb_record.specs.Coordinator.{coordinator_key_of, coordinator_row_of}
-use Rattle.sdb_record.specs.Moved.{version_of, condition_of}
-use Rattle.sdb_record.specs.Rolls.{prepared_record, forward_record, state_of_change, undo}
+use Rattle.sdb_record.specs.Groups.{grouped, in_groups, ungrouped}
+pub use Rattle.sdb_record.specs.Puts.{forward_of, forwards_of, is_as_prepared, prepare_of, prepares_of}
+use Rattle.sdb_record.specs.Rolls.{undo}
 
 -- A transaction as its COMMIT takes it, at a moment: what it writes, in order of first writing; the keys that it read by
 -- gets, in order of first reading; the spans that it scanned.
@@ -16,18 +17,6 @@ pub record Work : Type 0 where
   pub writes : List Write
   pub reads : List Read
   pub scans : List Scan
-
--- Prepare: the prepared record is put, on condition that the base is still there.
-abbrev pub prepare_of : TxId → ℤ → Write → Request
-prepare_of id now w = ask.PutIf (prepared_record w id now) (condition_of (version_of w.base))
-
--- a write's record is still as it was prepared
-abbrev pub is_as_prepared : TxId → Write → Condition
-is_as_prepared id w = condition.Version id (state_of_change w.change)
-
--- Roll forward: the committed record is put, on condition that the record is as it was prepared.
-abbrev pub forward_of : TxId → ℤ → Write → Request
-forward_of id now w = ask.PutIf (forward_record (prepared_record w id now) now) (is_as_prepared id w)
 
 -- Roll back: the base again, on condition that the record is as it was prepared.
 abbrev pub back_of : TxId → Write → Request
@@ -45,11 +34,21 @@ abort_of id now = ask.PutIf (coordinator_row_of id decision.Aborted now) conditi
 abbrev pub look_of : TxId → Request
 look_of id = ask.Get (coordinator_key_of id)
 
+-- Prepares and roll forwards take a call for each group.
 abbrev pub prepares : Work → List Request
-prepares p = map (prepare_of p.id p.now) p.writes
+prepares p = map (prepares_of p.id p.now) (grouped p.writes)
 
 abbrev pub forwards : Work → List Request
-forwards p = map (forward_of p.id p.now) p.writes
+forwards p = map (forwards_of p.id p.now) (grouped p.writes)
 
+-- A roll back takes a call for each write, in the order of the groups.
 abbrev pub backs : Work → List Request
-backs p = map (back_of p.id) p.writes
+backs p = map (back_of p.id) (in_groups p.writes)
+
+-- how many groups are written
+abbrev pub groups_of : Work → ℕ
+groups_of p = length (grouped p.writes)
+
+-- how many writes the first groups have
+abbrev pub writes_before : Work → ℕ → ℕ
+writes_before p i = length (ungrouped (take i (grouped p.writes)))

@@ -1,6 +1,10 @@
 //! Laws of the phases, for every list of replies that the calls can get.
-ghost use Rattle.std.specs.Prelude.{◌≡◌, ◌≤◌, ◌+◌, ℕ, ℤ, true, false, Option, Some, length};
-ghost use Rattle.sdb_phases.specs.Types.{Key, Record, Reply, TxId};
+ghost use Rattle.std.specs.Prelude.{◌≡◌, ◌≤◌, ◌+◌, ℕ, ℤ, true, false, IfSome, Option, Some, length};
+ghost use Rattle.sdb_phases.specs.Types.{Key, Meta, Record, Reply, Request, TxId};
+ghost use Rattle.sdb_phases.specs.Recover.{recover_request_at};
+ghost use Rattle.sdb_phases.specs.declared.step.RecoverPhase.{RecoverPhase};
+ghost use Rattle.sdb_types.specs.Contents.{IsWellFormed};
+ghost use Rattle.sdb_record.specs.Groups.{AreGroups, grouped};
 ghost use Rattle.sdb_types.specs.declared.record.Reply.TheVariants as reply;
 ghost use Rattle.sdb_record.specs.Coordinator.{coordinator_key_of};
 ghost use Rattle.sdb_phases.specs.declared.step.Outcome.{Outcome};
@@ -8,9 +12,9 @@ ghost use Rattle.sdb_phases.specs.declared.step.Outcome.TheVariants as outcome;
 ghost use Rattle.sdb_phases.specs.declared.step.DecidePhase.TheVariants as phase;
 ghost use Rattle.sdb_phases.specs.declared.step.RecoverPhase.TheVariants as recovering;
 ghost use Rattle.sdb_phases.specs.declared.step.RecoverStep.TheVariants as recover_step;
-ghost use Rattle.sdb_phases.specs.Work.{Work, decide_of};
+ghost use Rattle.sdb_phases.specs.Work.{Work, decide_of, groups_of};
 ghost use Rattle.sdb_phases.specs.Commit.{Stage, Preparing, Checking, Deciding, Forward, Back, Over, step, pending, out_of_memory, has_stopped};
-ghost use Rattle.sdb_phases.specs.CommitLaws.{may_undo, IsLost, is_unrecorded, writes_of, reads_of, exact_calls, most_calls};
+ghost use Rattle.sdb_phases.specs.CommitLaws.{may_undo, IsLost, is_unrecorded, reads_of, exact_calls, most_calls};
 ghost use Rattle.sdb_phases.specs.RecoverLaws.{learned_committed, learned_aborted, found_expired, found_pending, WasRolled, received_fault, received_malformed};
 ghost use Rattle.sdb_phases.specs.Run.{CommitRun, RecoverRun, answer_of, phase_after, seen_in, stage_after};
 
@@ -19,8 +23,8 @@ ghost use Rattle.sdb_phases.specs.Run.{CommitRun, RecoverRun, answer_of, phase_a
 /// passed, and at no other number of replies, so at most once.
 pub fn commit_order()
     ensures prepares { (r : CommitRun) (i : ℕ) → stage_after r ≡ Preparing i → (length r.past ≡ i) × ((seen_in r).passed ≡ true) }
-    ensures checks { (r : CommitRun) (i : ℕ) → stage_after r ≡ Checking i → (length r.past ≡ writes_of r.work + i) × ((seen_in r).passed ≡ true) }
-    ensures decides { (r : CommitRun) → stage_after r ≡ Deciding phase.Put → (length r.past ≡ writes_of r.work + reads_of r.work) × ((seen_in r).passed ≡ true) }
+    ensures checks { (r : CommitRun) (i : ℕ) → stage_after r ≡ Checking i → (length r.past ≡ groups_of r.work + i) × ((seen_in r).passed ≡ true) }
+    ensures decides { (r : CommitRun) → stage_after r ≡ Deciding phase.Put → (length r.past ≡ groups_of r.work + reads_of r.work) × ((seen_in r).passed ≡ true) }
     ensures alone { (p : Work) (s : Stage) → pending p s ≡ Some (decide_of p.id p.now) → s ≡ Deciding phase.Put }
 {}
 
@@ -47,11 +51,17 @@ pub fn commit_ends()
     ensures faulted { (r : CommitRun) → stage_after r ≡ Over outcome.Faulted → (seen_in r).faulted ≡ true }
 {}
 
-/// A COMMIT that is answered Committed makes exactly two calls for each write, one for each extra read, and the deciding
-/// put, where none faulted; and no COMMIT makes more than three calls above that.
+/// A COMMIT that is answered Committed makes exactly two calls for each group of its writes, one for each extra read, and the
+/// deciding put, where none faulted. No COMMIT makes more than one call for each group, one for each write, one for each extra
+/// read, and four.
 pub fn commit_calls()
     ensures exact { (r : CommitRun) → stage_after r ≡ Over outcome.Committed → (seen_in r).faulted ≡ false → length r.past ≡ exact_calls r.work }
     ensures most { (r : CommitRun) → length r.past ≤ most_calls r.work }
+{}
+
+/// Each call of a COMMIT whose writes have keys that differ is well formed.
+pub fn requests_are_well_formed()
+    ensures { (p : Work) (s : Stage) (q : Request) → AreGroups (grouped p.writes) → pending p s ≡ Some q → IsWellFormed q }
 {}
 
 /// A COMMIT that answers out of memory in place of a conflict makes the same calls, to the end.
@@ -59,6 +69,11 @@ pub fn out_of_memory_like()
     ensures calls { (p : Work) (s : Stage) → pending p (out_of_memory s) ≡ pending p s }
     ensures steps { (p : Work) (s : Stage) (r : Reply) → has_stopped s ≡ true → step p (out_of_memory s) r ≡ out_of_memory (step p s r) }
     ensures stays { (p : Work) (s : Stage) (r : Reply) → has_stopped s ≡ true → has_stopped (step p s r) ≡ true }
+{}
+
+/// Each call of a recovery is well formed.
+pub fn recoveries_are_well_formed()
+    ensures { (rec : Record) (meta : Meta) (p : RecoverPhase) → IfSome (recover_request_at rec meta p) IsWellFormed }
 {}
 
 /// A recovery makes at most four calls. It puts ABORTED only as its second call, after a look that found no row at a moment

@@ -7,7 +7,7 @@ use sdb_record::{
     Change, Decision, Write, condition_of, coordinator_key, coordinator_row, prepared,
     rolled_forward, version_of,
 };
-use sdb_types::{Condition, Duplicate, NoMemory, Request, State, TxId};
+use sdb_types::{Condition, Duplicate, NoMemory, Put, Request, State, TxId};
 use std::alloc::Global;
 
 // The state in which a change leaves its key prepared.
@@ -27,23 +27,26 @@ fn as_prepared(write: &Write, id: TxId) -> Condition
 }
 
 /// The prepare of a write, at a moment from 0 to 2^53.
-pub fn prepare(alloc: Global, write: &Write, id: TxId, now: i64) -> Result<Request, NoMemory>
+pub fn prepare(alloc: Global, write: &Write, id: TxId, now: i64) -> Result<Put, NoMemory>
     requires { IsWrite write.now }
-    ensures { IfOk result (λ request. request ≡ prepare_of id now write.now) }
+    ensures { IfOk result (λ put. put ≡ prepare_of id now write.now) }
 {
-    Ok(Request::PutIf(
-        prepared(alloc, write, id, now)?,
-        condition_of(version_of(&write.base)),
-    ))
+    Ok(Put {
+        rec: prepared(alloc, write, id, now)?,
+        condition: condition_of(version_of(&write.base)),
+    })
 }
 
 /// The roll forward of a write that was prepared at a moment from 0 to 2^53, and is committed at that moment.
-pub fn forward(alloc: Global, write: &Write, id: TxId, now: i64) -> Result<Request, NoMemory>
+pub fn forward(alloc: Global, write: &Write, id: TxId, now: i64) -> Result<Put, NoMemory>
     requires { IsWrite write.now }
-    ensures { IfOk result (λ request. request ≡ forward_of id now write.now) }
+    ensures { IfOk result (λ put. put ≡ forward_of id now write.now) }
 {
     let rec = prepared(alloc, write, id, now)?;
-    Ok(Request::PutIf(rolled_forward(alloc, &rec, now)?, as_prepared(write, id)))
+    Ok(Put {
+        rec: rolled_forward(alloc, &rec, now)?,
+        condition: as_prepared(write, id),
+    })
 }
 
 /// The roll back of a write.

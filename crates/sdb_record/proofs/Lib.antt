@@ -10,4 +10,6 @@ mod RollLaws
 mod WriteLaws
 mod PreparedRecords
 mod ImageLaws
+mod Grouping
+mod KeysOnce
 pub mod Public

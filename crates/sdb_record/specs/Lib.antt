@@ -10,3 +10,5 @@ pub mod Rolls
 pub mod Moved
 pub mod Among
 pub mod Prepared
+pub mod Groups
+pub mod Puts

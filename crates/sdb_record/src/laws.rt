@@ -1,5 +1,7 @@
 //! Laws of the definitions that contracts cite.
-ghost use Rattle.std.specs.Prelude.{◌≡◌, ℤ, ◌<◌, ◌^◌, true, None, Some, Ok, Option};
+ghost use Rattle.std.specs.Prelude.{◌≡◌, ℤ, ◌<◌, ◌^◌, true, List, None, Some, Ok, Option};
+ghost use Rattle.std.specs.List.{AllByRecursion};
+ghost use Rattle.std.specs.List.Sorted.{IsPermutation};
 ghost use Rattle.sdb_record.specs.Types.{Record, State, TxId};
 ghost use Rattle.sdb_types.specs.declared.record.State.TheVariants.{Committed};
 ghost use Rattle.sdb_types.specs.Contents.{is_version};
@@ -7,6 +9,8 @@ ghost use Rattle.sdb_record.specs.declared.coordinator.Decided.{Decided};
 ghost use Rattle.sdb_record.specs.declared.coordinator.Decision.{Decision};
 ghost use Rattle.sdb_record.specs.declared.coordinator.Decision.TheVariants as decision;
 ghost use Rattle.sdb_record.specs.declared.meta.Meta.{Meta};
+ghost use Rattle.sdb_record.specs.declared.write.Write.{Write};
+ghost use Rattle.sdb_record.specs.Groups.{IsGroup, grouped, in_groups};
 ghost use Rattle.sdb_record.specs.Parts.{before_record};
 ghost use Rattle.sdb_record.specs.Meta.{checked, id_in, is_in, is_moment, is_transactional, is_unresolved};
 ghost use Rattle.sdb_record.specs.Coordinator.{coordinator_key_of, coordinator_row_of, decision_in, id_of_key};
@@ -60,6 +64,14 @@ pub fn image_is_committed()
 pub fn version_is_writer()
     ensures meta { (r : Record) (m : Meta) → checked r.columns ≡ Ok m → is_version m.id m.state r ≡ true }
     ensures writer { (r : Record) (id : TxId) (s : State) → id.0 < 2 ^ 128 → is_version id s r ≡ true → id_in r.columns ≡ Some id }
+{}
+
+/// Grouped, writes are the same writes: each group has from 1 to 64 of them, of one partition of one table, and writes in the order of their
+/// groups are grouped alike.
+pub fn groups_hold()
+    ensures each { (ws : List Write) → AllByRecursion IsGroup (grouped ws) }
+    ensures same { (ws : List Write) → IsPermutation ws (in_groups ws) }
+    ensures again { (ws : List Write) → grouped (in_groups ws) ≡ grouped ws }
 {}
 
 /// A coordinator row is at its transaction's key, and its decision is read back.

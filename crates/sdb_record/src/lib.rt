@@ -3,6 +3,7 @@
 
 mod access;
 mod coordinator;
+mod groups;
 pub mod laws;
 mod meta;
 mod moved;
@@ -13,6 +14,7 @@ mod write;
 
 pub use access::{Access, Image, Images, Read, Reads, Scan, Scans};
 pub use coordinator::{Decided, Decision};
+pub use groups::{Groups, grouped};
 pub use meta::{Meta, MetaRefused, meta_of};
 pub use moved::{condition_of, has_version, is_same_version, is_unchanged, version_of, writer_of};
 pub use part::is_user_name;

@@ -261,6 +261,7 @@ impl Snapshot {
     pub fn into_parts(self) -> (Writes, Reads, Scans)
         ensures writes { result.0 ≡ self.writes }
         ensures valid { AreWrites self.writes }
+        ensures once { HaveKeysOnce self.writes }
         ensures reads { result.1 ≡ self.reads }
         ensures scans { result.2 ≡ self.scans }
     {

@@ -59,9 +59,12 @@ answered_fine (ask.Scan span) (reply.Rows rows) h = settle_fine (ask.Scan span) 
 answered_fine (ask.PutIf rec condition) (reply.Found found) h = absurd h
 answered_fine (ask.PutIf rec condition) (reply.Rows rows) h = absurd h
 answered_fine (ask.DeleteIf key condition) (reply.Found found) h = absurd h
+answered_fine (ask.PutAll batch) (reply.Found found) h = absurd h
 answered_fine (ask.DeleteIf key condition) (reply.Rows rows) h = absurd h
+answered_fine (ask.PutAll batch) (reply.Rows rows) h = absurd h
 answered_fine q reply.Applied h = tt
 answered_fine q (reply.NotMet found) h = tt
+answered_fine q (reply.NotAll place there) h = tt
 answered_fine q reply.Fault h = tt
 answered_fine q reply.NoMemory h = tt
 

@@ -63,6 +63,7 @@ placed_swap (ask.Scan span) xs r b ys e h =
     (all_swap span xs r b ys e (and_second (rise (xs ++ r ∷ ys)) (list_all (λ x. in_span span x.key) (xs ++ r ∷ ys)) h))
 placed_swap (ask.PutIf x condition) xs r b ys e h = h
 placed_swap (ask.DeleteIf key condition) xs r b ys e h = h
+placed_swap (ask.PutAll batch) xs r b ys e h = h
 
 pub placed_drop : (q : Request) (xs : List Record) (r : Record) (ys : List Record) → AreWithin q (xs ++ r ∷ ys) → AreWithin q (xs ++ ys)
 placed_drop (ask.Get key) [] r [] h = tt
@@ -75,3 +76,4 @@ placed_drop (ask.Scan span) xs r ys h =
     (all_drop span xs r ys (and_second (rise (xs ++ r ∷ ys)) (list_all (λ x. in_span span x.key) (xs ++ r ∷ ys)) h))
 placed_drop (ask.PutIf x condition) xs r ys h = absurd h
 placed_drop (ask.DeleteIf key condition) xs r ys h = absurd h
+placed_drop (ask.PutAll batch) xs r ys h = absurd h

@@ -4,7 +4,8 @@ use Rattle.sdb_txn.specs.Types.{AbortPhase, Outcome}
 use Rattle.sdb_phases.specs.declared.step.Outcome.TheVariants as outcome
 use Rattle.sdb_phases.specs.declared.step.AbortPhase.TheVariants as abort
 use Rattle.sdb_phases.specs.declared.step.DecidePhase.TheVariants as decide
-use Rattle.sdb_phases.specs.Work.{Work, prepares, forwards, backs, abort_of}
+use Rattle.sdb_record.specs.Groups.{AreGroups, grouped}
+use Rattle.sdb_phases.specs.Work.{Work, prepares, forwards, backs, abort_of, writes_before}
 use Rattle.sdb_phases.specs.Checks.{checks}
 use Rattle.sdb_phases.specs.Steps.{Aborting}
 use Rattle.sdb_phases.specs.Commit.{Stage, Preparing, Checking, Deciding, Forward, Stopping, Back, Over}
@@ -44,7 +45,7 @@ IsAbortPending abort.Rolling u = u.at < u.upto
 
 -- The phases to come are at their start.
 abbrev pub IsReady : Phase → Inside → Type 0
-IsReady phase.Prepare c = (c.prepare.asks ≡ prepares (work_of c)) × (c.prepare.touched ≡ c.prepare.at) × (c.validate.at ≡ 0) × (c.decide.phase ≡ decide.Put) × (c.commit.at ≡ 0) × (c.abort.phase ≡ abort.Idle)
+IsReady phase.Prepare c = (c.prepare.asks ≡ prepares (work_of c)) × (c.prepare.touched ≡ writes_before (work_of c) c.prepare.at) × (c.validate.at ≡ 0) × (c.decide.phase ≡ decide.Put) × (c.commit.at ≡ 0) × (c.abort.phase ≡ abort.Idle)
 IsReady phase.Validate c = (c.decide.phase ≡ decide.Put) × (c.commit.at ≡ 0) × (c.abort.phase ≡ abort.Idle)
 IsReady phase.Decide c = (c.commit.at ≡ 0) × (c.abort.phase ≡ abort.Idle)
 IsReady phase.Forward c = Unit {0}
@@ -59,6 +60,7 @@ pub record IsCommit (c : Inside) : Type 0 where
   pub forwards_are : c.commit.asks ≡ forwards (work_of c)
   pub backs_are : c.abort.asks ≡ backs (work_of c)
   pub row_is : c.abort.row ≡ abort_of c.id c.moment
+  pub groups : AreGroups (grouped c.writes)
   pub ready : IsReady c.phase c
 
 abbrev pub IsPreparing : Stage → Type 0

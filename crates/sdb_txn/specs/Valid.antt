@@ -22,6 +22,7 @@ AreWithin (ask.Get key) rs = IsAtMostOne key rs
 AreWithin (ask.Scan span) rs = are_rows_of span rs ≡ true
 AreWithin (ask.PutIf r condition) rs = ⊥
 AreWithin (ask.DeleteIf key condition) rs = ⊥
+AreWithin (ask.PutAll batch) rs = ⊥
 
 -- a record is rolled forward to a moment
 abbrev pub IsPhase : RecoverPhase → Type 0

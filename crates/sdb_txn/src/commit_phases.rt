@@ -1,6 +1,8 @@
 //! A COMMIT under way: its phases, one after another.
-ghost use Rattle.std.specs.Prelude.{◌≡◌, ◌<◌, ◌≤◌, All, IfOk, IsSome, IsNone, Some, is_some, length, nat_lt, false};
+ghost use Rattle.std.specs.Prelude.{◌≡◌, ◌<◌, ◌≤◌, All, IfOk, IfSome, IsSome, IsNone, Some, is_some, length, nat_lt, false};
 ghost use Rattle.std.specs.Option.{option_copied};
+ghost use Rattle.sdb_types.specs.Contents.{IsWellFormed};
+ghost use Rattle.sdb_snapshot.specs.Written.{HaveKeysOnce};
 ghost use Rattle.sdb_record.specs.Meta.{is_moment};
 ghost use Rattle.sdb_record.specs.Rolls.{IsWrite};
 ghost use Rattle.sdb_phases.specs.Steps.{CanGet, validate_request};
@@ -12,7 +14,7 @@ ghost use Rattle.sdb_txn.specs.CommitInside.{IsPreparing, IsChecking, IsDeciding
 use sdb_decide::{Abort, Commit, Decide, DecideStep};
 use sdb_phases::{Outcome, PrepareStep, ValidateStep};
 use sdb_prepare::Prepare;
-use sdb_record::{Reads, Scans, Writes};
+use sdb_record::{Reads, Scans, Writes, grouped};
 use sdb_types::{NoMemory, Reply, Request, TxId};
 use sdb_validate::Validate;
 use std::alloc::Global;
@@ -88,11 +90,11 @@ fn checking(validate: &Validate) -> Phase
     }
 }
 
-// The phase that a COMMIT begins with.
-fn first_phase(writes: &Writes, validate: &Validate) -> Phase
-    ensures { result ≡ first (nat_lt 0 (length writes.now)) (is_some (validate_request validate.now)) }
+// The phase that a COMMIT of so many writes begins with.
+fn first_phase(writes: usize, validate: &Validate) -> Phase
+    ensures { result ≡ first (nat_lt 0 writes) (is_some (validate_request validate.now)) }
 {
-    if writes.len() > 0 {
+    if writes > 0 {
         Phase::Prepare
     } else {
         checking(validate)
@@ -135,16 +137,19 @@ impl CommitPhases {
         reads: Reads,
         scans: Scans,
     ) -> Result<CommitPhases, NoMemory>
-        requires { All IsWrite writes }
+        requires valid { All IsWrite writes }
+        requires once { HaveKeysOnce writes }
         ensures work { IfOk result (λ c. c.work ≡ record { id = id; now = now; writes = writes; reads = reads; scans = scans }) }
         ensures stage { IfOk result (λ c. c.stage ≡ preparing_lem c.work 0) }
     {
-        let prepare = Prepare::new(alloc, &writes, id, now)?;
+        let count = writes.len();
+        let groups = grouped(&writes)?;
+        let prepare = Prepare::new(alloc, &groups, id, now)?;
         let validate = Validate::new(alloc, &reads, &scans, &writes)?;
         let decide = Decide::new(alloc, id, now)?;
-        let commit = Commit::new(alloc, &writes, id, now)?;
-        let abort = Abort::new(alloc, &writes, id, now)?;
-        let phase = first_phase(&writes, &validate);
+        let commit = Commit::new(alloc, &groups, id, now)?;
+        let abort = Abort::new(alloc, &groups, id, now)?;
+        let phase = first_phase(count, &validate);
         Ok(CommitPhases {
             id,
             moment: now,
@@ -163,7 +168,8 @@ impl CommitPhases {
 
     /// The call that is pending; none where it has ended. Takes no memory.
     pub fn request(&self) -> Option<&Request>
-        ensures { option_copied result ≡ pending self.now.work self.now.stage }
+        ensures call { option_copied result ≡ pending self.now.work self.now.stage }
+        ensures formed { IfSome result (λ request. IsWellFormed request.now) }
     {
         match self.phase {
             Phase::Prepare => self.prepare.request(),
@@ -276,7 +282,7 @@ impl CommitPhases {
         ensures work { self.new.work ≡ self.old.work }
         ensures stage { IsNone result → self.new.stage ≡ forward_lem self.old.work 0 }
     {
-        if self.writes.len() > 0 {
+        if self.commit.request().is_some() {
             self.phase = Phase::Forward;
             return None;
         }

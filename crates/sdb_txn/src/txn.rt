@@ -1,6 +1,7 @@
 //! A transaction.
-ghost use Rattle.std.specs.Prelude.{◌≡◌, ◌≢◌, ◌≤◌, ◌<◌, OnOk, OnErr, IsSome, Err, length, slice_get, take, true, false};
+ghost use Rattle.std.specs.Prelude.{◌≡◌, ◌≢◌, ◌≤◌, ◌<◌, OnOk, OnErr, IfSome, IsSome, Err, length, slice_get, take, true, false};
 ghost use Rattle.std.specs.Option.{option_copied};
+ghost use Rattle.sdb_types.specs.Contents.{IsWellFormed};
 ghost use Rattle.sdb_record.specs.declared.access.Access.TheVariants as access;
 ghost use Rattle.sdb_phases.specs.CommitLaws.{IsWork};
 ghost use Rattle.sdb_phases.specs.Steps.{CanGet};
@@ -125,7 +126,8 @@ impl Txn {
 
     /// The call that is pending; none where nothing is done. Takes no memory.
     pub fn pending(&self) -> Option<&Request>
-        ensures { option_copied result ≡ pending self.now }
+        ensures call { option_copied result ≡ pending self.now }
+        ensures formed { IfSome result (λ request. IsWellFormed request.now) }
     {
         match &self.doing {
             Doing::Read(_, read) => read.request(),

@@ -82,6 +82,7 @@ answered_light ss n (reply.Rows rows) = on_light ss n rows
 answered_light ss n (reply.Found found) = omega arith
 answered_light ss n reply.Applied = omega arith
 answered_light ss n (reply.NotMet found) = omega arith
+answered_light ss n (reply.NotAll place there) = omega arith
 answered_light ss n reply.Fault = omega arith
 answered_light ss n reply.NoMemory = omega arith
 
@@ -110,6 +111,7 @@ removal_light ss n left reply.Applied = on_light ss (n + 1) left
 removal_light ss n left (reply.NotMet found) = on_light ss n left
 removal_light ss n left (reply.Found found) = omega arith
 removal_light ss n left (reply.Rows rows) = omega arith
+removal_light ss n left (reply.NotAll place there) = omega arith
 removal_light ss n left reply.Fault = omega arith
 removal_light ss n left reply.NoMemory = omega arith
 
@@ -170,6 +172,7 @@ answered_exact ss n (reply.Rows rows) k total f h = on_exact ss n rows k total f
 answered_exact ss n (reply.Found found) k total f h = λ m e. absurd (cc)
 answered_exact ss n reply.Applied k total f h = λ m e. absurd (cc)
 answered_exact ss n (reply.NotMet found) k total f h = λ m e. absurd (cc)
+answered_exact ss n (reply.NotAll place there) k total f h = λ m e. absurd (cc)
 answered_exact ss n reply.Fault k total f h = λ m e. absurd (cc)
 answered_exact ss n reply.NoMemory k total f h = λ m e. absurd (cc)
 
@@ -179,6 +182,7 @@ removal_exact ss n q b left reply.Applied k total is h f e = on_exact ss (n + 1)
 removal_exact ss n q b left (reply.NotMet found) k total is h f e = on_exact ss n left k (total + 0) f (omega arith)
 removal_exact ss n q b left (reply.Found found) k total is h f e = λ m e. absurd (cc)
 removal_exact ss n q b left (reply.Rows rows) k total is h f e = λ m e. absurd (cc)
+removal_exact ss n q b left (reply.NotAll place there) k total is h f e = λ m e. absurd (cc)
 removal_exact ss n q b left reply.Fault k total is h f e = λ m e. absurd (cc)
 removal_exact ss n q b left reply.NoMemory k total is h f e = λ m e. absurd (cc)
 
@@ -240,6 +244,7 @@ answered_counted ss n (reply.Rows rows) = on_counted ss n (first_of rows)
 answered_counted ss n (reply.Found found) = λ m e. absurd (cc)
 answered_counted ss n reply.Applied = λ m e. absurd (cc)
 answered_counted ss n (reply.NotMet found) = λ m e. absurd (cc)
+answered_counted ss n (reply.NotAll place there) = λ m e. absurd (cc)
 answered_counted ss n reply.Fault = λ m e. absurd (cc)
 answered_counted ss n reply.NoMemory = λ m e. absurd (cc)
 
@@ -257,6 +262,7 @@ removal_counted ss n left reply.Applied = on_counted ss (n + 1) (first_of left)
 removal_counted ss n left (reply.NotMet found) = on_counted ss n (first_of left)
 removal_counted ss n left (reply.Found found) = λ m e. absurd (cc)
 removal_counted ss n left (reply.Rows rows) = λ m e. absurd (cc)
+removal_counted ss n left (reply.NotAll place there) = λ m e. absurd (cc)
 removal_counted ss n left reply.Fault = λ m e. absurd (cc)
 removal_counted ss n left reply.NoMemory = λ m e. absurd (cc)
 
@@ -303,6 +309,7 @@ answered_keeps ss n (reply.Rows rows) = on_keeps ss n (first_of rows)
 answered_keeps ss n (reply.Found found) = refl
 answered_keeps ss n reply.Applied = refl
 answered_keeps ss n (reply.NotMet found) = refl
+answered_keeps ss n (reply.NotAll place there) = refl
 answered_keeps ss n reply.Fault = refl
 answered_keeps ss n reply.NoMemory = refl
 
@@ -345,6 +352,7 @@ removal_one ss n b left reply.Applied (Some id) h = on_keeps ss (n + 1) (first_o
 removal_one ss n b left (reply.NotMet found) (Some id) h = on_keeps ss n (first_of left) ∙ (omega arith)
 removal_one ss n b left (reply.Found found) (Some id) h = absurd h
 removal_one ss n b left (reply.Rows rows) (Some id) h = absurd h
+removal_one ss n b left (reply.NotAll place there) (Some id) h = absurd h
 removal_one ss n b left reply.Fault (Some id) h = omega arith
 removal_one ss n b left reply.NoMemory (Some id) h = omega arith
 

@@ -128,6 +128,7 @@ answered_so c past ss n (reply.Rows rows) e = on_so (c ∷ past) ss n rows (λ k
 answered_so c past ss n (reply.Found found) e = (tt, tt)
 answered_so c past ss n reply.Applied e = (tt, tt)
 answered_so c past ss n (reply.NotMet found) e = (tt, tt)
+answered_so c past ss n (reply.NotAll place there) e = (tt, tt)
 answered_so c past ss n reply.Fault e = (tt, or_first (is_fault c.reply) (received_fault past) (ap is_fault e))
 answered_so c past ss n reply.NoMemory e = (tt, tt)
 
@@ -186,6 +187,7 @@ removal_so c past ss n left reply.Applied e h = on_so (c ∷ past) ss (n + 1) le
 removal_so c past ss n left (reply.NotMet found) e h = on_so (c ∷ past) ss n left h
 removal_so c past ss n left (reply.Found found) e h = (tt, tt)
 removal_so c past ss n left (reply.Rows rows) e h = (tt, tt)
+removal_so c past ss n left (reply.NotAll place there) e h = (tt, tt)
 removal_so c past ss n left reply.Fault e h = (tt, or_first (is_fault c.reply) (received_fault past) (ap is_fault e))
 removal_so c past ss n left reply.NoMemory e h = (tt, tt)
 

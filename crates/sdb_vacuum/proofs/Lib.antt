@@ -1,4 +1,5 @@
 mod Firm
+mod Formed
 mod WellFormed
 mod Counts
 mod Spans

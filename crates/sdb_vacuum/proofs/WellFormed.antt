@@ -67,6 +67,7 @@ answered_fine ss n (reply.Rows rows) = on_fine ss n rows
 answered_fine ss n (reply.Found found) = tt
 answered_fine ss n reply.Applied = tt
 answered_fine ss n (reply.NotMet found) = tt
+answered_fine ss n (reply.NotAll place there) = tt
 answered_fine ss n reply.Fault = tt
 answered_fine ss n reply.NoMemory = tt
 
@@ -91,6 +92,7 @@ removal_fine ss n left reply.Applied = on_fine ss (n + 1) left
 removal_fine ss n left (reply.NotMet found) = on_fine ss n left
 removal_fine ss n left (reply.Found found) = tt
 removal_fine ss n left (reply.Rows rows) = tt
+removal_fine ss n left (reply.NotAll place there) = tt
 removal_fine ss n left reply.Fault = tt
 removal_fine ss n left reply.NoMemory = tt
 

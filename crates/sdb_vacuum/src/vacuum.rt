@@ -1,6 +1,7 @@
 //! A VACUUM under way.
-ghost use Rattle.std.specs.Prelude.{◌≡◌, ◌≢◌, ◌<◌, ℤ, IfOk, IsSome, None, Some, length, slice_get};
+ghost use Rattle.std.specs.Prelude.{◌≡◌, ◌≢◌, ◌<◌, ℤ, IfOk, IfSome, IsSome, None, Some, length, slice_get};
 ghost use Rattle.std.specs.Option.{option_copied};
+ghost use Rattle.sdb_types.specs.Contents.{IsWellFormed};
 ghost use Rattle.sdb_phases.specs.Recover.{recover_next};
 ghost use Rattle.sdb_phases.specs.Steps.{CanGet};
 ghost use Rattle.sdb_vacuum.specs.Vacuum.{Gives, IsRemoving, IsResolving, IsScanning, begun, spans_of as spans_of_lem, vacuum_pending, vacuum_step};
@@ -98,7 +99,8 @@ impl Vacuum {
 
     /// The call that is pending; none where it has ended. Takes no memory.
     pub fn pending(&self) -> Option<&Request>
-        ensures { option_copied result ≡ vacuum_pending self.now }
+        ensures call { option_copied result ≡ vacuum_pending self.now }
+        ensures formed { IfSome result (λ request. IsWellFormed request.now) }
     {
         match &self.doing {
             Doing::Scanning(call) => Some(call),

@@ -147,7 +147,7 @@ fn judge(check: &Check, reply: Reply, more: bool) -> ValidateStep
         Reply::Rows(rows) => scan_took(check, rows, more),
         Reply::Fault => ValidateStep::Faulted,
         Reply::NoMemory => ValidateStep::NoMemory,
-        Reply::Applied | Reply::NotMet(_) => go_on(more),
+        Reply::Applied | Reply::NotMet(_) | Reply::NotAll(_, _) => go_on(more),
     }
 }
 

@@ -1,7 +1,7 @@
 use Rattle.std.proofs.Common.{◌≡◌, take}
 use Rattle.std.specs.Prelude.{map}
-use Rattle.sdb_phases.specs.Work.{prepare_of}
+use Rattle.sdb_phases.specs.Work.{prepares_of}
 use Rattle.sdb_prepare.proofs.prepare.prepares.Given as goal
 
-abbrev pub invariant-loop-write : goal.invariant-loop-write
-invariant-loop-write l = l.asks ≡ map (prepare_of l.id l.now) (take l.write-index l.writes)
+abbrev pub invariant-loop-group : goal.invariant-loop-group
+invariant-loop-group l = l.asks ≡ map (prepares_of l.id l.now) (take l.group-index l.groups)
