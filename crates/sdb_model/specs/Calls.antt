@@ -74,6 +74,7 @@ is_read (ask.Get key) = true
 is_read (ask.Scan span) = true
 is_read (ask.PutIf rec condition) = false
 is_read (ask.DeleteIf key condition) = false
+is_read (ask.PutAll b) = false
 
 -- a delete of a committed record
 abbrev pub is_removal : Request → Bool
@@ -100,6 +101,7 @@ records_read r = []
 -- all records that a reply shows
 abbrev pub records_observed : Reply → List Record
 records_observed (reply.NotMet (Some r)) = r ∷ []
+records_observed (reply.NotAll k (Some r)) = r ∷ []
 records_observed r = records_read r
 
 -- what a reply says is at the one key that its request names

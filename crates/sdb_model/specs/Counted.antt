@@ -1,5 +1,5 @@
 -- How many calls statements make, how unresolved records are rolled, and how many calls of stores may fail.
-use Rattle.std.specs.Prelude.{◌≡◌, ◌⊎◌, ◌≤◌, ℕ, ℤ, ◌+◌, ◌*◌, Bool, true, false, not, if◌then◌else◌, List, filter, length, Some, Contains, All}
+use Rattle.std.specs.Prelude.{◌≡◌, ◌⊎◌, ◌≤◌, ℕ, ℤ, ◌+◌, ◌*◌, Bool, true, false, not, if◌then◌else◌, List, filter, length, sum_by, Some, Contains, All}
 use Rattle.std.specs.Option.{option_map_or}
 use Rattle.std.specs.List.{count_by, flat_map, list_any}
 use Rattle.std.specs.Ordering.{is_eq}
@@ -19,7 +19,8 @@ use Rattle.sdb_model.specs.declared.event.How.{How}
 use Rattle.sdb_model.specs.declared.event.How.TheVariants.{Seen, Lost, Discarded, Delayed, Broken}
 use Rattle.sdb_model.specs.Sql.{reads_commit, reads_vacuum}
 use Rattle.sdb_model.specs.Transactions.{Executed, statements_by, client_of, commit_of, prepares}
-use Rattle.sdb_model.specs.Calls.{StoreCall, calls_of, calls_after, decision_observed, is_removal, key_asked, records_read}
+use Rattle.sdb_model.specs.Calls.{StoreCall, calls_of, calls_after, decision_observed, is_removal, records_read}
+use Rattle.sdb_model.specs.Requests.{records_put}
 use Rattle.sdb_model.specs.ReadSet.{ReadItem, KeyRead, SpanRead, read_set_of, has_read, reads_rows}
 use Rattle.sdb_model.specs.Causes.{IsEarly}
 use Rattle.sdb_types.specs.Replies.{is_answered}
@@ -37,8 +38,13 @@ is_seen Broken = false
 abbrev pub prepares_in : TxId → List StoreCall → List StoreCall
 prepares_in id calls = filter (λ m. prepares id m.request) calls
 
+-- how many records they put
+abbrev pub puts_prepared : TxId → List StoreCall → ℕ
+puts_prepared id calls = sum_by (λ m. length (records_put m.request)) (prepares_in id calls)
+
+-- a call puts a record at a key
 abbrev pub is_key_of : Key → StoreCall → Bool
-is_key_of key m = option_map_or (λ k. is_eq (key_cmp k key)) (key_asked m.request) false
+is_key_of key m = list_any (λ r. is_eq (key_cmp r.key key)) (records_put m.request)
 
 -- a get of the read set of a key that isn't prepared
 abbrev pub is_checked_get : List StoreCall → ReadItem → Bool
@@ -49,15 +55,16 @@ abbrev pub is_scan : ReadItem → Bool
 is_scan (KeyRead read) = false
 is_scan (SpanRead scan) = true
 
--- Two for each key that was prepared, one for each get of the read set of another key, and one for each scan of the read set.
-abbrev pub calls_wanted : List Event → TxId → List StoreCall → ℕ
-calls_wanted events id calls = 2 * length (prepares_in id calls) + (count_by (is_checked_get (prepares_in id calls)) (read_set_of events id) + count_by is_scan (read_set_of events id))
+-- One for each get of the read set of a key that isn't prepared, and one for each scan of the read set.
+abbrev pub checks_wanted : List Event → TxId → List StoreCall → ℕ
+checks_wanted events id calls = count_by (is_checked_get (prepares_in id calls)) (read_set_of events id) + count_by is_scan (read_set_of events id)
 
--- A COMMIT that was answered Committed, all of whose replies were seen, made one call more than that; any other made at most four
+-- A COMMIT that was answered Committed, all of whose replies were seen, made two calls for each group of keys that was prepared, one for each
+-- check, and one more. Any other made at most one for each prepare, one for each record that was prepared, one for each check, and four
 -- more.
 pub record IsCommitCounted (events : List Event) (id : TxId) (s : Executed) (calls : List StoreCall) : Type 0 where
-  pub exact : s.answer ≡ Some answer.Committed → All (λ m. is_seen m.how ≡ true) calls → length calls ≡ calls_wanted events id calls + 1
-  pub most : length calls ≤ calls_wanted events id calls + 4
+  pub exact : s.answer ≡ Some answer.Committed → All (λ m. is_seen m.how ≡ true) calls → length calls ≡ 2 * length (prepares_in id calls) + checks_wanted events id calls + 1
+  pub most : length calls ≤ length (prepares_in id calls) + (puts_prepared id calls + checks_wanted events id calls) + 4
 
 ---- the calls of other statements
 

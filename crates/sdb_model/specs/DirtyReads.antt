@@ -36,6 +36,7 @@ ReadsKey key (ask.Get k) = k ≡ key
 ReadsKey key (ask.Scan span) = in_span span key ≡ true
 ReadsKey key (ask.PutIf rec condition) = ⊥
 ReadsKey key (ask.DeleteIf k condition) = ⊥
+ReadsKey key (ask.PutAll b) = ⊥
 
 -- A statement read a key, and the row is that of its committed image at a moment between the statement's Take and its answer.
 pub record WasCommitted (places : List Place) (events : List Event) (opening : List StoreContents) (moments : List (List StoreContents)) (client : ℕ) (s : Executed) (key : Key) (row : Option (List Pair)) : Type 0 where

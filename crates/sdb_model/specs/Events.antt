@@ -4,7 +4,7 @@ use Rattle.std.specs.Option.{option_map, option_map_or}
 use Rattle.sdb_model.specs.Types.{Key, Place, Record, Reply, Request, TableName}
 use Rattle.sdb_types.specs.declared.record.Request.TheVariants as ask
 use Rattle.sdb_types.specs.declared.record.Reply.TheVariants as reply
-use Rattle.sdb_types.specs.Contents.{Contents, record_at, apply, after}
+use Rattle.sdb_types.specs.Contents.{Contents, IsWellFormed, record_at, apply, after, table_of_puts}
 use Rattle.sdb_model.specs.declared.event.Event.{Event}
 use Rattle.sdb_model.specs.declared.event.Event.TheVariants as event
 use Rattle.sdb_model.specs.declared.event.How.{How}
@@ -41,6 +41,7 @@ table_asked (ask.Get key) = key.table
 table_asked (ask.Scan span) = span.table
 table_asked (ask.PutIf rec condition) = rec.key.table
 table_asked (ask.DeleteIf key condition) = key.table
+table_asked (ask.PutAll b) = table_of_puts b
 
 -- What a call does to its store. Seen: the store's reply and its effect, or out of memory and no effect. Lost: the
 -- effect, and a fault for the client. Discarded and Delayed: no effect, and a fault. Broken: the store itself failed, with
@@ -52,9 +53,10 @@ IsPerformed q Discarded r before now = (r ≡ reply.Fault) × (now ≡ before)
 IsPerformed q Delayed r before now = (r ≡ reply.Fault) × (now ≡ before)
 IsPerformed q Broken r before now = (r ≡ reply.Fault) × ((now ≡ before) ⊎ (now ≡ after q before))
 
--- One call: it goes to the store of its table, does to it what its request, how and reply say, and leaves every other
+-- One call of a well-formed request: it goes to the store of its table, does to it what its request, how and reply say, and leaves every other
 -- store as it was.
 pub record IsCall (places : List Place) (store : Name) (q : Request) (how : How) (r : Reply) (before now : List StoreContents) : Type 0 where
+  pub formed : IsWellFormed q
   pub held : Contents
   pub left : Contents
   pub placed : store ≡ store_of places before (table_asked q).ns

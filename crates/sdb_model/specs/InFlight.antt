@@ -20,7 +20,7 @@ use Rattle.sdb_model.specs.Events.{Contact, StoreContents, contact_of, moment}
 use Rattle.sdb_model.specs.Explained.{IsAborted, IsPrepareOf, IsTableKey, Observes}
 use Rattle.sdb_model.specs.Follows.{has_stopped, in_flight}
 use Rattle.sdb_model.specs.ReadSet.{read_set_of, ReadItem, version_read}
-use Rattle.sdb_model.specs.Requests.{records_put}
+use Rattle.sdb_model.specs.Requests.{puts_in, records_put}
 use Rattle.sdb_model.specs.Rows.{Name}
 use Rattle.sdb_model.specs.Transactions.{Executed, Recorded, begun, client_of, commit_of, ending, prepares}
 
@@ -85,7 +85,7 @@ pub record IsCertainAt (catalog : List Table) (events : List Event) (n : ℕ) (i
 
 ---- a committed record in flight
 
--- A request rolls what a recorded transaction prepared forward to this record.
+-- A request rolls what a recorded transaction prepared forward to this record, alone or with others.
 pub record IsRollForward (places : List Place) (events : List Event) (now : List StoreContents) (q : Request) (r : Record) : Type 0 where
   pub id : TxId
   pub prepared : Record
@@ -94,7 +94,7 @@ pub record IsRollForward (places : List Place) (events : List Event) (now : List
   pub was : WasAsked id prepared events
   pub forward : r ≡ forward_record prepared when
   pub unresolved : is_committed found ≡ false
-  pub asked : q ≡ ask.PutIf r (condition.Version id found)
+  pub asked : Contains (puts_in q) (r, condition.Version id found)
   pub recorded : Recorded places now id
 
 -- A request rolls what a transaction whose row is ABORTED prepared back to this record, which stood there before.

@@ -7,7 +7,7 @@ use Rattle.std.specs.Str.{IsUtf8}
 use Rattle.sdb_types.specs.Fits.{value_fits, key_fits, record_fits}
 use Rattle.sdb_types.specs.Identifier.{is_name}
 use Rattle.sdb_types.specs.Order.{table_cmp}
-use Rattle.sdb_model.specs.Types.{Condition, Key, Record, Reply, Request, Span, TableName, TxId, Value}
+use Rattle.sdb_model.specs.Types.{Condition, Key, Put, Record, Reply, Request, Span, TableName, TxId, Value}
 use Rattle.sdb_types.specs.declared.record.Condition.TheVariants.{Absent, Version}
 use Rattle.sdb_types.specs.declared.record.Reply.TheVariants as reply
 use Rattle.sdb_types.specs.declared.record.Request.TheVariants as ask
@@ -51,17 +51,23 @@ abbrev pub condition_is_plain : Condition → Type 0
 condition_is_plain Absent = Unit {0}
 condition_is_plain (Version id state) = id_is_plain id
 
+pub record put_is_plain (p : Put) : Type 0 where
+  pub rec : record_fits p.rec
+  pub condition : condition_is_plain p.condition
+
 abbrev pub request_is_plain : Request → Type 0
 request_is_plain (ask.Get key) = key_fits key
 request_is_plain (ask.Scan span) = span_is_plain span
 request_is_plain (ask.PutIf r condition) = record_fits r × condition_is_plain condition
 request_is_plain (ask.DeleteIf key condition) = key_fits key × condition_is_plain condition
+request_is_plain (ask.PutAll b) = is_counted b × All put_is_plain b
 
 abbrev pub reply_is_plain : Reply → Type 0
 reply_is_plain (reply.Found found) = IfSome found record_fits
 reply_is_plain (reply.Rows rows) = is_counted rows × All record_fits rows
 reply_is_plain reply.Applied = Unit {0}
 reply_is_plain (reply.NotMet found) = IfSome found record_fits
+reply_is_plain (reply.NotAll k found) = (k < 2 ^ 32) × IfSome found record_fits
 reply_is_plain reply.Fault = Unit {0}
 reply_is_plain reply.NoMemory = Unit {0}
 

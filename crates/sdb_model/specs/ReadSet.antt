@@ -32,12 +32,13 @@ version_read (SpanRead scan) key = if in_span scan.span key then Some (version_a
 
 ---- what a found record means
 
--- the condition on which a call puts or deletes
+-- the condition on which a call puts or deletes one record
 abbrev pub condition_asked : Request → Option Condition
 condition_asked (ask.Get key) = None
 condition_asked (ask.Scan span) = None
 condition_asked (ask.PutIf rec condition) = Some condition
 condition_asked (ask.DeleteIf key condition) = Some condition
+condition_asked (ask.PutAll b) = None
 
 -- A call rolls a record: it puts or deletes at the record's key, on a condition that the record meets.
 abbrev pub rolls : Record → StoreCall → Bool

@@ -6,7 +6,7 @@ use Rattle.sdb_types.specs.Contents.{state_number}
 use Rattle.sdb_types.specs.Order.{table_text}
 use Rattle.sdb_types.specs.TxId.{id_text}
 use Rattle.sdb_schema.specs.Kinds.{kind_text}
-use Rattle.sdb_model.specs.Types.{Condition, Kind, Record, Reply, Request, TableName, Value}
+use Rattle.sdb_model.specs.Types.{Condition, Put, Kind, Record, Reply, Request, TableName, Value}
 use Rattle.sdb_types.specs.declared.record.Condition.TheVariants.{Absent, Version}
 use Rattle.sdb_types.specs.declared.record.Reply.TheVariants as reply
 use Rattle.sdb_types.specs.declared.record.Request.TheVariants as ask
@@ -34,11 +34,20 @@ abbrev pub condition_text_of : Condition → List ℕ
 condition_text_of Absent = codes "absent"
 condition_text_of (Version id state) = id_text id.0 ++ codes " " ++ signed_decimal (state_number state)
 
+-- a record that is put, and on which condition
+abbrev pub put_text_of : Put → List ℕ
+put_text_of p = record_text_of p.rec ++ codes " if " ++ condition_text_of p.condition
+
+-- how many puts, then each after a space
+abbrev pub puts_text_of : List Put → List ℕ
+puts_text_of b = decimal (length b) ++ flat_map (λ p. codes " " ++ put_text_of p) b
+
 abbrev pub request_text_of : Request → List ℕ
 request_text_of (ask.Get key) = codes "get " ++ key_text_of key
 request_text_of (ask.Scan span) = codes "scan " ++ span_text_of span
 request_text_of (ask.PutIf r condition) = codes "put " ++ record_text_of r ++ codes " if " ++ condition_text_of condition
 request_text_of (ask.DeleteIf key condition) = codes "delete " ++ key_text_of key ++ codes " if " ++ condition_text_of condition
+request_text_of (ask.PutAll b) = codes "putall " ++ puts_text_of b
 
 abbrev pub how_text_of : How → List ℕ
 how_text_of Seen = codes "seen"
@@ -61,6 +70,7 @@ reply_text_of (reply.Found found) = codes "found " ++ found_text_of found
 reply_text_of (reply.Rows rows) = codes "rows " ++ records_text_of rows
 reply_text_of reply.Applied = codes "applied"
 reply_text_of (reply.NotMet found) = codes "notmet " ++ found_text_of found
+reply_text_of (reply.NotAll k found) = codes "notall " ++ decimal k ++ codes " " ++ found_text_of found
 reply_text_of reply.Fault = codes "fault"
 reply_text_of reply.NoMemory = codes "nomemory"
 

@@ -1,5 +1,7 @@
 -- What a request asks for, what it puts, and what a reply to it shows.
 use Rattle.std.specs.Prelude.{Bool, false, ◌||◌, List, [], ◌∷◌, map, Option, Some, None}
+use Rattle.std.specs.Option.{option_map_or}
+use Rattle.sdb_types.specs.Contents.{put_at}
 use Rattle.sdb_model.specs.Types.{Condition, Key, Record, Reply, Request}
 use Rattle.sdb_types.specs.declared.record.Request.TheVariants as ask
 use Rattle.sdb_types.specs.declared.record.Reply.TheVariants as reply
@@ -26,12 +28,14 @@ puts_in (ask.Get key) = []
 puts_in (ask.Scan span) = []
 puts_in (ask.PutIf r condition) = (r, condition) ∷ []
 puts_in (ask.DeleteIf key condition) = []
+puts_in (ask.PutAll b) = map (λ p. (p.rec, p.condition)) b
 
 -- What a reply shows at the keys that its request names: the record that was found there, or none. A scan names no key.
 abbrev pub observed_in : Request → Reply → List (Key × Option Record)
 observed_in (ask.Get key) (reply.Found found) = (key, found) ∷ []
 observed_in (ask.PutIf r condition) (reply.NotMet found) = (r.key, found) ∷ []
 observed_in (ask.DeleteIf key condition) (reply.NotMet found) = (key, found) ∷ []
+observed_in (ask.PutAll b) (reply.NotAll k found) = option_map_or (λ p. (p.rec.key, found) ∷ []) (put_at b k) []
 observed_in q r = []
 
 ---- by these two

@@ -2,14 +2,14 @@
 ghost use Rattle.std.specs.Prelude.{◌≡◌, ◌++◌, OnOk, IfOk, decimal};
 ghost use Rattle.std.specs.List.{flat_map};
 ghost use Rattle.std.specs.String.{string_bytes};
-ghost use Rattle.sdb_model.specs.Report.{given_text_of, condition_text_of, request_text_of, how_text_of, found_text_of, records_text_of, reply_text_of, take_text_of, asked_text_of, came_text_of, effect_text_of, landed_text_of, altered_text_of, alter_text_of, event_text_of, event_line, event_lines, point_line, row_line, table_lines, heading, events_text_of, order_text_of, tables_text_of, report_text_of};
+ghost use Rattle.sdb_model.specs.Report.{given_text_of, condition_text_of, put_text_of, puts_text_of, request_text_of, how_text_of, found_text_of, records_text_of, reply_text_of, take_text_of, asked_text_of, came_text_of, effect_text_of, landed_text_of, altered_text_of, alter_text_of, event_text_of, event_line, event_lines, point_line, row_line, table_lines, heading, events_text_of, order_text_of, tables_text_of, report_text_of};
 
 use crate::text::{
     put_answer, put_id, put_key, put_number, put_record, put_row, put_signed, put_span, put_table,
 };
 use crate::{Altered, Answer, Event, Events, How, Outcome, Point, Points, TableDump, TableRows};
 use sdb_schema::Kind;
-use sdb_types::{Condition, Name, NoMemory, Record, Reply, Request, TableName, Txt, Values};
+use sdb_types::{Condition, Name, NoMemory, Put, Record, Reply, Request, TableName, Txt, Values};
 use std::alloc::Global;
 
 /// Adds an answer's text, or `-` where there is none.
@@ -37,6 +37,25 @@ fn put_condition(out: &mut String, condition: Condition) -> Result<(), NoMemory>
     Ok(())
 }
 
+fn put_put(out: &mut String, put: &Put) -> Result<(), NoMemory>
+    ensures { OnOk result (string_bytes out.new ≡ string_bytes out.old ++ put_text_of put.now) }
+{
+    put_record(out, &put.rec)?;
+    out.push_str(" if ")?;
+    put_condition(out, put.condition)
+}
+
+fn put_puts(out: &mut String, puts: &[Put]) -> Result<(), NoMemory>
+    ensures { OnOk result (string_bytes out.new ≡ string_bytes out.old ++ puts_text_of puts.now) }
+{
+    put_number(out, puts.len() as u64)?;
+    for put in puts {
+        out.push_str(" ")?;
+        put_put(out, put)?;
+    }
+    Ok(())
+}
+
 fn put_request(out: &mut String, request: &Request) -> Result<(), NoMemory>
     ensures { OnOk result (string_bytes out.new ≡ string_bytes out.old ++ request_text_of request.now) }
 {
@@ -60,6 +79,10 @@ fn put_request(out: &mut String, request: &Request) -> Result<(), NoMemory>
             put_key(out, key)?;
             out.push_str(" if ")?;
             put_condition(out, *condition)
+        }
+        Request::PutAll(batch) => {
+            out.push_str("putall ")?;
+            put_puts(out, batch.as_slice())
         }
     }
 }
@@ -113,6 +136,12 @@ fn put_reply(out: &mut String, reply: &Reply) -> Result<(), NoMemory>
         Reply::Applied => out.push_str("applied")?,
         Reply::NotMet(found) => {
             out.push_str("notmet ")?;
+            put_found(out, found)?;
+        }
+        Reply::NotAll(place, found) => {
+            out.push_str("notall ")?;
+            put_number(out, u64::from(*place))?;
+            out.push_str(" ")?;
             put_found(out, found)?;
         }
         Reply::Fault => out.push_str("fault")?,

@@ -17,15 +17,15 @@ use Rattle.sdb_types.specs.Order.{table_text}
 use Rattle.sdb_types.specs.TxId.{id_text}
 use Rattle.sdb_schema.specs.Kinds.{kind_text}
 use Rattle.sdb_schema.specs.declared.table.Kind.TheVariants as kind
-use Rattle.sdb_report.specs.Types.{Altered, Answer, Condition, Event, How, Key, Kind, Pair, Record, Reply, Request, TableName, Value}
+use Rattle.sdb_report.specs.Types.{Altered, Answer, Condition, Event, How, Key, Kind, Pair, Put, Record, Reply, Request, TableName, Value}
 use Rattle.sdb_types.specs.declared.record.Condition.TheVariants.{Absent, Version}
 use Rattle.sdb_types.specs.declared.record.Reply.TheVariants as reply
 use Rattle.sdb_types.specs.declared.record.Request.TheVariants as ask
 use Rattle.sdb_types.specs.declared.record.State.TheVariants.{Prepared, Deleted, Committed, Aborted}
 use Rattle.sdb_types.specs.declared.value.Value.TheVariants as value
 use Rattle.sdb_types.proofs.Public.{and_both, and_first, and_second, by_test, parts}
-use Rattle.sdb_model.specs.Plain.{is_no_lf, is_one_line, table_is_plain, IsFoundAt, values_are_plain, request_is_plain, reply_is_plain, altered_is_plain, IsPlainAnswer, IsPlainGiven, HasPlainParts}
-use Rattle.sdb_model.specs.Report.{given_text_of, condition_text_of, request_text_of, how_text_of, found_text_of, reply_text_of, altered_text_of, event_text_of}
+use Rattle.sdb_model.specs.Plain.{is_no_lf, is_one_line, table_is_plain, IsFoundAt, values_are_plain, put_is_plain, request_is_plain, reply_is_plain, altered_is_plain, IsPlainAnswer, IsPlainGiven, HasPlainParts}
+use Rattle.sdb_model.specs.Report.{given_text_of, condition_text_of, put_text_of, request_text_of, how_text_of, found_text_of, reply_text_of, altered_text_of, event_text_of}
 use Rattle.sdb_model.specs.Texts.{doubled, value_text_of, values_text_of, row_text_of, clustering_text_of, key_text_of, partition_text_of, pair_text_of, columns_text_of, record_text_of, found_columns_text_of, rows_text_of, answer_text_of}
 use Rattle.sdb_model.specs.declared.answer.Answer.TheVariants as answer
 use Rattle.sdb_model.specs.declared.event.Altered.TheVariants as altered
@@ -214,6 +214,9 @@ partition_one : (p : Option (List Value)) → IfSome p values_are_plain → IfSo
 partition_one None fits h = refl
 partition_one (Some vs) fits h = row_one vs fits h
 
+put_one : (p : Put) → put_is_plain p → RecordHasNoLf p.rec → IsLine (put_text_of p)
+put_one p fits h = lines_joined (record_text_of p.rec ++ codes " if ") (condition_text_of p.condition) (lines_joined (record_text_of p.rec) (codes " if ") (record_one p.rec fits.rec h) refl) (condition_one p.condition)
+
 request_one : (r : Request) → request_is_plain r → RequestHasNoLf r → IsLine (request_text_of r)
 request_one (ask.Get key) fits h = key_one key fits h
 request_one (ask.Scan span) fits h = lines_joined (table_text span.table) (partition_text_of span.partition) (table_one span.table fits.table) (partition_one span.partition fits.partition h)
@@ -221,6 +224,9 @@ request_one (ask.PutIf r c) fits h =
     lines_joined (codes "put " ++ record_text_of r ++ codes " if ") (condition_text_of c) (lines_joined (codes "put " ++ record_text_of r) (codes " if ") (record_one r fits.0 h) refl) (condition_one c)
 request_one (ask.DeleteIf key c) fits h =
     lines_joined (codes "delete " ++ key_text_of key ++ codes " if ") (condition_text_of c) (lines_joined (codes "delete " ++ key_text_of key) (codes " if ") (key_one key fits.0 h) refl) (condition_one c)
+request_one (ask.PutAll b) fits h =
+    lines_joined (decimal (length b)) (flat_map (λ p. codes " " ++ put_text_of p) b) (decimal_one (length b) fits.0)
+    (flat_one (codes " ") put_text_of refl b (all_one put_is_plain (λ p. RecordHasNoLf p.rec) put_text_of put_one b fits.1 h))
 
 how_one : (how : How) → IsLine (how_text_of how)
 how_one Seen = refl
@@ -240,6 +246,7 @@ reply_one (reply.Rows rows) fits h =
     (flat_one (codes " ") record_text_of refl rows (all_one record_fits RecordHasNoLf record_text_of record_one rows fits.1 h))
 reply_one reply.Applied fits h = refl
 reply_one (reply.NotMet found) fits h = found_one found fits h
+reply_one (reply.NotAll k found) fits h = then_space (codes "notall " ++ decimal k) (found_text_of found) (decimal_one k (omega (arith, fits.0))) (found_one found fits.1 h)
 reply_one reply.Fault fits h = refl
 reply_one reply.NoMemory fits h = refl
 

@@ -1,21 +1,21 @@
 -- Requests, what became of them, and replies: what is read is there, and what is there is read.
 use Rattle.std.proofs.Common.{◌≡◌, ◌⊎◌, ℕ, ◌<◌, List, [], ◌∷◌, ◌++◌, Option, Some, None, IfSome, inl, inr, refl, ap, subst, ◌∙◌, append_assoc, append-nil, sym}
-use Rattle.std.specs.Prelude.{codes}
+use Rattle.std.specs.Prelude.{◌^◌, codes}
 use Rattle.std.specs.Fmt.{decimal, signed_decimal}
 use Rattle.std.proofs.lemmas.Option.{same_Some}
 use Rattle.sdb_types.specs.Contents.{state_number}
 use Rattle.sdb_types.specs.Fits.{key_fits, record_fits}
-use Rattle.sdb_report.specs.Types.{Condition, How, Record, Reply, Request, State, TxId}
+use Rattle.sdb_report.specs.Types.{Condition, How, Put, Record, Reply, Request, State, TxId}
 use Rattle.sdb_types.specs.declared.record.Condition.TheVariants.{Absent, Version}
 use Rattle.sdb_types.specs.declared.record.Reply.TheVariants as reply
 use Rattle.sdb_types.specs.declared.record.Request.TheVariants as ask
 use Rattle.sdb_types.specs.declared.record.State.TheVariants.{Prepared, Deleted, Committed, Aborted}
-use Rattle.sdb_model.specs.Plain.{span_is_plain, condition_is_plain, request_is_plain, reply_is_plain}
-use Rattle.sdb_model.specs.Report.{condition_text_of, request_text_of, how_text_of, found_text_of, records_text_of, reply_text_of}
+use Rattle.sdb_model.specs.Plain.{span_is_plain, condition_is_plain, put_is_plain, request_is_plain, reply_is_plain}
+use Rattle.sdb_model.specs.Report.{condition_text_of, put_text_of, puts_text_of, request_text_of, how_text_of, found_text_of, records_text_of, reply_text_of}
 use Rattle.sdb_model.specs.Texts.{key_text_of, span_text_of, record_text_of}
 use Rattle.sdb_model.specs.declared.event.How.TheVariants.{Seen, Lost, Discarded, Delayed, Broken}
-use Rattle.sdb_report.specs.FieldReading.{Read, case_of, after, name_at, table_at, key_at, span_at, record_at, id_at}
-use Rattle.sdb_report.specs.Lines.{behind_space, state_at, version_at, condition_at, get_at, scan_at, put_at, delete_at, request_at, how_at, landed_how_at, found_at, records_at, found_reply_at, rows_reply_at, not_met_at, reply_at}
+use Rattle.sdb_report.specs.FieldReading.{Read, case_of, after, natural_below, name_at, table_at, key_at, span_at, record_at, id_at}
+use Rattle.sdb_report.specs.Lines.{behind_space, state_at, version_at, condition_at, get_at, scan_at, put_at, delete_at, one_put_at, puts_at, put_all_at, request_at, how_at, landed_how_at, found_at, records_at, found_reply_at, rows_reply_at, not_met_at, not_all_at, reply_at}
 use Rattle.std.specs.Int.{w128, to_be_bytes}
 use Rattle.std.proofs.Common.{get_or, ltb, arith}
 use Rattle.std.proofs.Common.{◌+◌}
@@ -26,7 +26,7 @@ use Rattle.uuid.specs.Text.{hex_digit, lower, nibble}
 use Rattle.uuid.proofs.TextLemmas.{by_index_at}
 use Rattle.sdb_report.proofs.NumberLaws.{id_long}
 use Rattle.sdb_report.proofs.WordLaws.{case_some, join, Says, Sound, after_is}
-use Rattle.sdb_report.proofs.NumberLaws.{id_text_of, id_sound, id_again}
+use Rattle.sdb_report.proofs.NumberLaws.{below_sound, below_again, id_text_of, id_sound, id_again}
 use Rattle.sdb_report.proofs.KeyLaws.{key_sound, key_again, span_sound, span_again, record_sound, record_again}
 use Rattle.sdb_report.proofs.AnswerLaws.{behind_sound, made_sound, word_sound, join_space, CountedFit, items_sound, items_again, EndsDigits}
 use Rattle.sdb_types.proofs.Public.{bind_some, by_test}
@@ -102,6 +102,9 @@ condition_again (Version id state) rest fits =
 
 ---- requests
 
+abbrev put_of : Record → Condition → Put
+put_of r condition = record { rec = r; condition = condition }
+
 abbrev RequestSays : List ℕ → Request × List ℕ → Type 0
 RequestSays bytes x = Says request_text_of request_is_plain bytes x
 
@@ -131,10 +134,27 @@ delete_sound bytes rest x p h =
     subst (RequestSays bytes) (same_Some (ask.DeleteIf a.0.0 c.0.0, c.0.1) x c.2)
     (record { parts = join (codes "delete " ++ key_text_of a.0.0 ++ codes " if ") (condition_text_of c.0.0) c.0.1 three s.parts; fits = (r.fits, s.fits) })
 
+one_put_sound : Sound one_put_at put_text_of put_is_plain
+unfolding one_put_at
+one_put_sound bytes x h =
+    let a = bind_some (record_at bytes) (λ r. after (codes " if ") r.1 >>= λ rest. condition_at rest >>= λ condition. Some (put_of r.0 condition.0, condition.1)) x h in
+    let b = bind_some (after (codes " if ") a.0.1) (λ rest. condition_at rest >>= λ condition. Some (put_of a.0.0 condition.0, condition.1)) x a.2 in
+    let c = bind_some (condition_at b.0) (λ condition. Some (put_of a.0.0 condition.0, condition.1)) x b.2 in
+    let r = record_sound bytes a.0 a.1 in
+    let s = condition_sound b.0 c.0 c.1 in
+    let two = join (record_text_of a.0.0) (codes " if ") b.0 r.parts (after_is (codes " if ") a.0.1 b.0 b.1) in
+    subst (Says put_text_of put_is_plain bytes) (same_Some (put_of a.0.0 c.0.0, c.0.1) x c.2)
+    (record { parts = join (record_text_of a.0.0 ++ codes " if ") (condition_text_of c.0.0) c.0.1 two s.parts; fits = record { rec = r.fits; condition = s.fits } })
+
+puts_sound : Sound puts_at puts_text_of (CountedFit put_is_plain)
+unfolding puts_at
+puts_sound bytes x h = items_sound one_put_at put_text_of put_is_plain one_put_sound bytes x h
+
 pub request_sound : Sound request_at request_text_of request_is_plain
 unfolding request_at
 request_sound bytes x h =
-    let deleted = case_of (after (codes "delete ") bytes) delete_at None in
+    let all = case_of (after (codes "putall ") bytes) put_all_at None in
+    let deleted = case_of (after (codes "delete ") bytes) delete_at all in
     let puts = case_of (after (codes "put ") bytes) put_at deleted in
     let scans = case_of (after (codes "scan ") bytes) scan_at puts in
     case_some (after (codes "get ") bytes) get_at scans (Some x) h
@@ -142,10 +162,22 @@ request_sound bytes x h =
     case_some (after (codes "scan ") bytes) scan_at puts (Some x) k
     (λ rest q k. made_sound span_at span_text_of span_is_plain ask.Scan (codes "scan ") request_text_of request_is_plain span_sound (λ y. refl) (λ y f. f) bytes rest x q k) (λ q k.
     case_some (after (codes "put ") bytes) put_at deleted (Some x) k (λ rest q k. put_sound bytes rest x (after_is (codes "put ") bytes rest q) k) (λ q k.
-    case_some (after (codes "delete ") bytes) delete_at None (Some x) k (λ rest q k. delete_sound bytes rest x (after_is (codes "delete ") bytes rest q) k) (λ q k. absurd cc))))
+    case_some (after (codes "delete ") bytes) delete_at all (Some x) k (λ rest q k. delete_sound bytes rest x (after_is (codes "delete ") bytes rest q) k) (λ q k.
+    case_some (after (codes "putall ") bytes) put_all_at None (Some x) k
+    (λ rest q k. made_sound puts_at puts_text_of (CountedFit put_is_plain) ask.PutAll (codes "putall ") request_text_of request_is_plain puts_sound (λ y. refl) (λ y f. f) bytes rest x q k) (λ q k. absurd cc)))))
 
 if_pieces : (w r c rest : List ℕ) → (w ++ r ++ codes " if " ++ c) ++ rest ≡ w ++ (r ++ (codes " if " ++ (c ++ rest)))
 if_pieces w r c rest = simp append_assoc
+
+one_put_again : (p : Put) (rest : List ℕ) → put_is_plain p → one_put_at (put_text_of p ++ rest) ≡ Some (p, rest)
+unfolding one_put_at
+one_put_again p rest fits =
+    ap one_put_at (if_pieces [] (record_text_of p.rec) (condition_text_of p.condition) rest)
+    ∙ rw (record_again p.rec (codes " if " ++ (condition_text_of p.condition ++ rest)) fits.rec, condition_again p.condition rest fits.condition) refl
+
+puts_again : (b : List Put) (rest : List ℕ) → CountedFit put_is_plain b → EndsDigits rest → puts_at (puts_text_of b ++ rest) ≡ Some (b, rest)
+unfolding puts_at
+puts_again b rest fits e = items_again one_put_at put_text_of put_is_plain one_put_again b rest fits e
 
 -- a space after a request
 pub request_again : (r : Request) (rest : List ℕ) → request_is_plain r → request_at (request_text_of r ++ 32 ∷ rest) ≡ Some (r, 32 ∷ rest)
@@ -158,6 +190,7 @@ request_again (ask.PutIf r condition) rest fits =
 request_again (ask.DeleteIf key condition) rest fits =
     ap request_at (if_pieces (codes "delete ") (key_text_of key) (condition_text_of condition) (32 ∷ rest))
     ∙ rw (key_again key (codes " if " ++ (condition_text_of condition ++ 32 ∷ rest)) fits.0, condition_again condition (32 ∷ rest) fits.1) refl
+request_again (ask.PutAll b) rest fits = rw (puts_again b (32 ∷ rest) fits refl) refl
 
 ---- what became of a call
 
@@ -232,13 +265,28 @@ records_again : (rs : List Record) (rest : List ℕ) → CountedFit record_fits 
 unfolding records_at
 records_again rs rest fits e = items_again record_at record_text_of record_fits record_again rs rest fits e
 
+not_all_sound : (bytes rest : List ℕ) (x : Reply × List ℕ) → bytes ≡ codes "notall " ++ rest → not_all_at rest ≡ Some x → Says reply_text_of reply_is_plain bytes x
+unfolding not_all_at
+not_all_sound bytes rest x p h =
+    let a = bind_some (natural_below (2 ^ 32) rest) (λ place. behind_space found_at place.1 >>= λ found. Some (reply.NotAll place.0 found.0, found.1)) x h in
+    let b = bind_some (behind_space found_at a.0.1) (λ found. Some (reply.NotAll a.0.0 found.0, found.1)) x a.2 in
+    let k = below_sound (2 ^ 32) rest a.0 a.1 in
+    let f = behind_sound found_at found_text_of found_fits found_sound a.0.1 b.0 b.1 in
+    let two = join (codes "notall ") (decimal a.0.0) a.0.1 p k.parts in
+    subst (Says reply_text_of reply_is_plain bytes) (same_Some (reply.NotAll a.0.0 b.0.0, b.0.1) x b.2)
+    (record { parts = join_space (codes "notall " ++ decimal a.0.0) (found_text_of b.0.0) b.0.1 two f.parts; fits = (k.fits, f.fits) })
+
+all_pieces : (w n f rest : List ℕ) → (w ++ n ++ codes " " ++ f) ++ rest ≡ w ++ (n ++ 32 ∷ (f ++ rest))
+all_pieces w n f rest = simp append_assoc
+
 reply_word : (word : List ℕ) (r : Reply) → reply_text_of r ≡ word → reply_is_plain r → (bytes rest : List ℕ) (x : Reply × List ℕ) → after word bytes ≡ Some rest → Some (r, rest) ≡ Some x → Says reply_text_of reply_is_plain bytes x
 reply_word word r e fits bytes rest x q k = word_sound word r reply_text_of reply_is_plain e fits bytes rest x q k
 
 pub reply_sound : Sound reply_at reply_text_of reply_is_plain
 unfolding reply_at
 reply_sound bytes x h =
-    let nomemory = case_of (after (codes "nomemory") bytes) (λ rest. Some (reply.NoMemory, rest)) None in
+    let notall = case_of (after (codes "notall ") bytes) not_all_at None in
+    let nomemory = case_of (after (codes "nomemory") bytes) (λ rest. Some (reply.NoMemory, rest)) notall in
     let fault = case_of (after (codes "fault") bytes) (λ rest. Some (reply.Fault, rest)) nomemory in
     let notmet = case_of (after (codes "notmet ") bytes) not_met_at fault in
     let applied = case_of (after (codes "applied") bytes) (λ rest. Some (reply.Applied, rest)) notmet in
@@ -251,19 +299,26 @@ reply_sound bytes x h =
     case_some (after (codes "notmet ") bytes) not_met_at fault (Some x) k
     (λ rest q k. made_sound found_at found_text_of found_fits reply.NotMet (codes "notmet ") reply_text_of reply_is_plain found_sound (λ y. refl) (λ y f. f) bytes rest x q k) (λ q k.
     case_some (after (codes "fault") bytes) (λ rest. Some (reply.Fault, rest)) nomemory (Some x) k (λ rest q k. reply_word (codes "fault") reply.Fault refl tt bytes rest x q k) (λ q k.
-    case_some (after (codes "nomemory") bytes) (λ rest. Some (reply.NoMemory, rest)) None (Some x) k (λ rest q k. reply_word (codes "nomemory") reply.NoMemory refl tt bytes rest x q k) (λ q k. absurd cc))))))
+    case_some (after (codes "nomemory") bytes) (λ rest. Some (reply.NoMemory, rest)) notall (Some x) k (λ rest q k. reply_word (codes "nomemory") reply.NoMemory refl tt bytes rest x q k) (λ q k.
+    case_some (after (codes "notall ") bytes) not_all_at None (Some x) k (λ rest q k. not_all_sound bytes rest x (after_is (codes "notall ") bytes rest q) k) (λ q k. absurd cc)))))))
 
 -- a space after a reply
 pub reply_again : (r : Reply) (rest : List ℕ) → reply_is_plain r → reply_at (reply_text_of r ++ 32 ∷ rest) ≡ Some (r, 32 ∷ rest)
-unfolding reply_at
+unfolding reply_at not_all_at
 reply_again (reply.Found found) rest fits = rw (found_again found rest fits) refl
 reply_again (reply.Rows rows) rest fits = rw (records_again rows (32 ∷ rest) fits refl) refl
 reply_again reply.Applied rest fits = refl
 reply_again (reply.NotMet found) rest fits = rw (found_again found rest fits) refl
+reply_again (reply.NotAll k found) rest fits =
+    ap reply_at (all_pieces (codes "notall ") (decimal k) (found_text_of found) (32 ∷ rest))
+    ∙ rw (below_again (2 ^ 32) k (32 ∷ (found_text_of found ++ 32 ∷ rest)) (omega arith) fits.0 refl, found_again found rest fits.1) refl
 reply_again reply.Fault rest fits = refl
 reply_again reply.NoMemory rest fits = refl
 
 ---- a reply that nothing follows
+
+space_pieces : (w n f : List ℕ) → w ++ n ++ codes " " ++ f ≡ w ++ (n ++ 32 ∷ f)
+space_pieces w n f = simp append_assoc
 
 no_record_last : record_at (codes "none") ≡ None
 unfolding record_at key_at table_at name_at
@@ -278,10 +333,13 @@ records_last : (rs : List Record) → CountedFit record_fits rs → records_at (
 records_last rs fits = ap records_at (sym (append-nil (records_text_of rs))) ∙ records_again rs [] fits refl
 
 pub reply_last : (r : Reply) → reply_is_plain r → reply_at (reply_text_of r) ≡ Some (r, [])
-unfolding reply_at
+unfolding reply_at not_all_at
 reply_last (reply.Found found) fits = rw (found_last found fits) refl
 reply_last (reply.Rows rows) fits = rw (records_last rows fits) refl
 reply_last reply.Applied fits = refl
 reply_last (reply.NotMet found) fits = rw (found_last found fits) refl
+reply_last (reply.NotAll k found) fits =
+    ap reply_at (space_pieces (codes "notall ") (decimal k) (found_text_of found))
+    ∙ rw (below_again (2 ^ 32) k (32 ∷ found_text_of found) (omega arith) fits.0 refl, found_last found fits.1) refl
 reply_last reply.Fault fits = refl
 reply_last reply.NoMemory fits = refl

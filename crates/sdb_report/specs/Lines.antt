@@ -1,6 +1,6 @@
 -- Reading the parts of a report's lines: answers, requests, replies, events, points and rows.
 use Rattle.std.specs.Prelude.{◌^◌, ℕ, Bool, true, false, if◌then◌else◌, List, [], ◌∷◌, codes, decimal, Option, Some, None}
-use Rattle.sdb_report.specs.Types.{Altered, Answer, Condition, Event, How, Key, Kind, Record, Reply, Request, State, TableName, Value}
+use Rattle.sdb_report.specs.Types.{Altered, Answer, Condition, Event, How, Key, Put, Kind, Record, Reply, Request, State, TableName, Value}
 use Rattle.sdb_schema.specs.declared.table.Kind.TheVariants as kind
 use Rattle.sdb_types.specs.declared.record.Condition.TheVariants.{Absent, Version}
 use Rattle.sdb_types.specs.declared.record.Reply.TheVariants as reply
@@ -115,12 +115,23 @@ put_at bytes = record_at bytes >>= λ r. after (codes " if ") r.1 >>= λ rest. c
 unfoldable pub delete_at : List ℕ → Read Request
 delete_at bytes = key_at bytes >>= λ key. after (codes " if ") key.1 >>= λ rest. condition_at rest >>= λ condition. Some (ask.DeleteIf key.0 condition.0, condition.1)
 
+-- a record that is put, and on which condition
+unfoldable pub one_put_at : List ℕ → Read Put
+one_put_at bytes = record_at bytes >>= λ r. after (codes " if ") r.1 >>= λ rest. condition_at rest >>= λ condition. Some (record { rec = r.0; condition = condition.0 }, condition.1)
+
+unfoldable pub puts_at : List ℕ → Read (List Put)
+puts_at bytes = items_at one_put_at bytes
+
+abbrev pub put_all_at : List ℕ → Read Request
+put_all_at bytes = made ask.PutAll (puts_at bytes)
+
 unfoldable pub request_at : List ℕ → Read Request
 request_at bytes =
     case_of (after (codes "get ") bytes) get_at
     (case_of (after (codes "scan ") bytes) scan_at
     (case_of (after (codes "put ") bytes) put_at
-    (case_of (after (codes "delete ") bytes) delete_at None)))
+    (case_of (after (codes "delete ") bytes) delete_at
+    (case_of (after (codes "putall ") bytes) put_all_at None))))
 
 unfoldable pub how_at : List ℕ → Read How
 how_at bytes =
@@ -154,6 +165,9 @@ rows_reply_at bytes = made reply.Rows (records_at bytes)
 abbrev pub not_met_at : List ℕ → Read Reply
 not_met_at bytes = made reply.NotMet (found_at bytes)
 
+unfoldable pub not_all_at : List ℕ → Read Reply
+not_all_at bytes = natural_below (2 ^ 32) bytes >>= λ place. behind_space found_at place.1 >>= λ found. Some (reply.NotAll place.0 found.0, found.1)
+
 unfoldable pub reply_at : List ℕ → Read Reply
 reply_at bytes =
     case_of (after (codes "found ") bytes) found_reply_at
@@ -161,7 +175,8 @@ reply_at bytes =
     (case_of (after (codes "applied") bytes) (λ rest. Some (reply.Applied, rest))
     (case_of (after (codes "notmet ") bytes) not_met_at
     (case_of (after (codes "fault") bytes) (λ rest. Some (reply.Fault, rest))
-    (case_of (after (codes "nomemory") bytes) (λ rest. Some (reply.NoMemory, rest)) None)))))
+    (case_of (after (codes "nomemory") bytes) (λ rest. Some (reply.NoMemory, rest))
+    (case_of (after (codes "notall ") bytes) not_all_at None))))))
 
 ---- added columns
 

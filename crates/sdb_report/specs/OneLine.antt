@@ -52,12 +52,14 @@ RequestHasNoLf (ask.Get key) = KeyHasNoLf key
 RequestHasNoLf (ask.Scan span) = IfSome span.partition ValuesHaveNoLf
 RequestHasNoLf (ask.PutIf r condition) = RecordHasNoLf r
 RequestHasNoLf (ask.DeleteIf key condition) = KeyHasNoLf key
+RequestHasNoLf (ask.PutAll b) = All (λ p. RecordHasNoLf p.rec) b
 
 abbrev pub ReplyHasNoLf : Reply → Type 0
 ReplyHasNoLf (reply.Found found) = IfSome found RecordHasNoLf
 ReplyHasNoLf (reply.Rows rows) = All RecordHasNoLf rows
 ReplyHasNoLf reply.Applied = Unit {0}
 ReplyHasNoLf (reply.NotMet found) = IfSome found RecordHasNoLf
+ReplyHasNoLf (reply.NotAll k found) = IfSome found RecordHasNoLf
 ReplyHasNoLf reply.Fault = Unit {0}
 ReplyHasNoLf reply.NoMemory = Unit {0}
 

@@ -5,11 +5,11 @@ ghost use Rattle.sdb_report.specs.FieldReading.{Gives};
 ghost use Rattle.sdb_report.specs.Lines as form;
 
 use crate::keys::{key_at, record_at, span_at};
-use crate::numbers::{id_at, natural_at};
+use crate::numbers::{id_at, natural_at, u32_at};
 use crate::unread::Unread;
 use crate::words::{after, expect};
 use sdb_model::How;
-use sdb_types::{Condition, Record, Records, Reply, Request, State};
+use sdb_types::{Batch, Condition, Put, Record, Records, Reply, Request, State};
 use std::alloc::Global;
 
 #[tactic(auto, unfolding(crate::specs::Lines::state_at))]
@@ -91,6 +91,52 @@ fn delete_at(alloc: Global, bytes: &[u8]) -> Result<(Request, &[u8]), Unread>
     Ok((Request::DeleteIf(key, condition), rest))
 }
 
+#[tactic(auto, unfolding(crate::specs::Lines::one_put_at))]
+fn one_put_at(alloc: Global, bytes: &[u8]) -> Result<(Put, &[u8]), Unread>
+    ensures { Gives (λ x. (x.0, x.1.now)) result (form.one_put_at bytes.now) }
+{
+    let (rec, rest) = record_at(alloc, bytes)?;
+    let rest = expect(b" if ", rest)?;
+    let (condition, rest) = condition_at(alloc, rest)?;
+    Ok((Put { rec, condition }, rest))
+}
+
+fn next_put_at(alloc: Global, bytes: &[u8]) -> Result<(Put, &[u8]), Unread>
+    ensures { Gives (λ x. (x.0, x.1.now)) result (form.behind_space form.one_put_at bytes.now) }
+{
+    let rest = expect(b" ", bytes)?;
+    one_put_at(alloc, rest)
+}
+
+// So many puts, each after a space.
+fn puts_on(alloc: Global, count: u64, bytes: &[u8]) -> Result<(Batch, &[u8]), Unread>
+    ensures { Gives (λ x. (x.0, x.1.now)) result (spec.counted (form.behind_space form.one_put_at) count [] bytes.now) }
+{
+    let mut puts = Batch::new(alloc);
+    let mut rest = bytes;
+    for _ in 0..count {
+        let (there, more) = next_put_at(alloc, rest)?;
+        puts.push(there)?;
+        rest = more;
+    }
+    Ok((puts, rest))
+}
+
+#[tactic(auto, unfolding(crate::specs::Lines::puts_at))]
+fn puts_at(alloc: Global, bytes: &[u8]) -> Result<(Batch, &[u8]), Unread>
+    ensures { Gives (λ x. (x.0, x.1.now)) result (form.puts_at bytes.now) }
+{
+    let (count, rest) = natural_at(bytes)?;
+    puts_on(alloc, count, rest)
+}
+
+fn put_all_at(alloc: Global, bytes: &[u8]) -> Result<(Request, &[u8]), Unread>
+    ensures { Gives (λ x. (x.0, x.1.now)) result (form.put_all_at bytes.now) }
+{
+    let (puts, rest) = puts_at(alloc, bytes)?;
+    Ok((Request::PutAll(puts), rest))
+}
+
 /// The request at the start.
 #[tactic(auto, unfolding(crate::specs::Lines::request_at))]
 pub fn request_at(alloc: Global, bytes: &[u8]) -> Result<(Request, &[u8]), Unread>
@@ -107,6 +153,9 @@ pub fn request_at(alloc: Global, bytes: &[u8]) -> Result<(Request, &[u8]), Unrea
     }
     if let Some(rest) = after(b"delete ", bytes) {
         return delete_at(alloc, rest);
+    }
+    if let Some(rest) = after(b"putall ", bytes) {
+        return put_all_at(alloc, rest);
     }
     Err(Unread::Bad)
 }
@@ -226,6 +275,22 @@ fn not_met_at(alloc: Global, bytes: &[u8]) -> Result<(Reply, &[u8]), Unread>
     Ok((Reply::NotMet(found), rest))
 }
 
+fn next_found_at(alloc: Global, bytes: &[u8]) -> Result<(Option<Record>, &[u8]), Unread>
+    ensures { Gives (λ x. (x.0, x.1.now)) result (form.behind_space form.found_at bytes.now) }
+{
+    let rest = expect(b" ", bytes)?;
+    found_at(alloc, rest)
+}
+
+#[tactic(auto, unfolding(crate::specs::Lines::not_all_at))]
+fn not_all_at(alloc: Global, bytes: &[u8]) -> Result<(Reply, &[u8]), Unread>
+    ensures { Gives (λ x. (x.0, x.1.now)) result (form.not_all_at bytes.now) }
+{
+    let (place, rest) = u32_at(bytes)?;
+    let (found, rest) = next_found_at(alloc, rest)?;
+    Ok((Reply::NotAll(place, found), rest))
+}
+
 /// The reply at the start.
 #[tactic(auto, unfolding(crate::specs::Lines::reply_at))]
 pub fn reply_at(alloc: Global, bytes: &[u8]) -> Result<(Reply, &[u8]), Unread>
@@ -248,6 +313,9 @@ pub fn reply_at(alloc: Global, bytes: &[u8]) -> Result<(Reply, &[u8]), Unread>
     }
     if let Some(rest) = after(b"nomemory", bytes) {
         return Ok((Reply::NoMemory, rest));
+    }
+    if let Some(rest) = after(b"notall ", bytes) {
+        return not_all_at(alloc, rest);
     }
     Err(Unread::Bad)
 }
