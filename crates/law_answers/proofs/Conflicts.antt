@@ -1,48 +1,54 @@
 -- Each call of a COMMIT keeps what the calls say of what it prepared and checked.
 use Rattle.std.proofs.Common.{◌≡◌, ◌<◌, ◌+◌, ◌⊎◌, inl, inr, ℕ, ℤ, zero, suc, Bool, true, false, not, cond, List, [], ◌∷◌, ◌++◌, map, length, Option, Some, None, refl, sym, ap, subst, ◌∙◌, arith}
-use Rattle.std.specs.Prelude.{if◌then◌else◌, ◌&&◌, ◌||◌, filter, find, nat_lt, slice_get, Contains, IfSome, is_some}
+use Rattle.std.specs.Prelude.{◌-◌, IsSomeAnd, if◌then◌else◌, ◌&&◌, ◌||◌, filter, find, nat_lt, slice_get, Contains, IfSome, is_some}
 use Rattle.std.specs.List.{AllByRecursion, list_all, list_any}
-use Rattle.std.specs.Option.{option_and_then, option_map}
+use Rattle.std.specs.Option.{option_and_then, option_map, option_map_or}
 use Rattle.std.specs.Ordering.{is_eq}
 use Rattle.std.specs.Cmp.{eq_by_cmp_equiv}
 use Rattle.std.proofs.lemmas.Bool.{and_parts}
 use Rattle.std.proofs.lemmas.Bool.Decides.{nat_tests}
 use Rattle.std.proofs.lemmas.List.Elements.{Contains-append_left, Contains-push}
-use Rattle.law_answers.specs.Types.{Change, Check, Condition, DecidePhase, DecideStep, Key, Outcome, Read, Record, Reply, Request, Scan, State, TxId, Write}
+use Rattle.std.proofs.lemmas.Option.{slice_get-map}
+use Rattle.law_answers.specs.Types.{Change, Check, Condition, DecidePhase, DecideStep, Key, Outcome, Put, Read, Record, Reply, Request, Scan, State, TxId, Write}
 use Rattle.sdb_types.specs.declared.record.Reply.TheVariants as reply
 use Rattle.sdb_types.specs.declared.record.Request.TheVariants as ask
 use Rattle.sdb_types.specs.declared.record.State.TheVariants as state
 use Rattle.sdb_types.specs.declared.value.Value.TheVariants as value
 use Rattle.sdb_types.specs.Columns.{column}
 use Rattle.sdb_types.specs.TxId.{id_text}
-use Rattle.sdb_types.specs.Contents.{CanAnswer, are_rows_of, has_value, in_span, is_version, rise, state_number, tx_id, tx_state, record_among}
+use Rattle.sdb_types.specs.Contents.{CanAnswer, IsUnmet, are_rows_of, has_value, in_span, is_version, put_at, rise, state_number, tx_id, tx_state, record_among}
 use Rattle.sdb_types.specs.Order.{key_cmp, same_key}
 use Rattle.sdb_types.proofs.Public.{all_each as each_any, and_false, append_all as each_append, by_test, clash, key_total, none_some, same_key_exact, same_key_self, some_is}
 use Rattle.sdb_record.specs.declared.write.Change.TheVariants as change
 use Rattle.sdb_record.specs.Coordinator.{coordinator_row_of}
+use Rattle.sdb_record.specs.Groups.{grouped, in_groups}
 use Rattle.sdb_record.specs.Moved.{is_unchanged, same_version, version_of}
 use Rattle.sdb_record.specs.Rolls.{IsBaseOf, IsWrite, prepared_record, state_of_change, undo}
-use Rattle.sdb_record.proofs.Public.{has_value-is, prepared-base, prepared-key, prepared-version}
+use Rattle.sdb_record.proofs.Public.{grouped_all, has_value-is, prepared-base, prepared-key, prepared-version}
 use Rattle.sdb_record.specs.Among.{version_among, write_among, is_written}
-use Rattle.sdb_model.specs.Calls.{StoreCall, put_by}
-use Rattle.sdb_model.specs.Causes.{ConflictsAtCommit, IsUnmet, ScanObserves, prepares_key}
+use Rattle.sdb_model.specs.Calls.{StoreCall}
+use Rattle.sdb_model.specs.Causes.{ConflictsAtCommit, ScanObserves, prepares_key}
+use Rattle.sdb_model.specs.Causes as causes
 use Rattle.sdb_model.specs.ReadSet.{KeyRead, ReadItem, SpanRead, version_read}
-use Rattle.sdb_model.specs.Requests.{any_of, records_put}
+use Rattle.sdb_model.specs.Requests.{any_of, observed_in, records_put}
 use Rattle.sdb_model.specs.Transactions.{is_prepared_record, prepares}
-use Rattle.sdb_model.proofs.Public.{any_less, put_among, unmet_observed}
+use Rattle.sdb_model.proofs.Public.{any_less, in_only, unmet_all_observed}
 use Rattle.sdb_phases.specs.declared.step.DecidePhase.TheVariants as phase
 use Rattle.sdb_phases.specs.declared.step.DecideStep.TheVariants as decide
 use Rattle.sdb_phases.specs.declared.step.Outcome.TheVariants as outcome
+use Rattle.sdb_phases.specs.declared.step.PrepareStep.TheVariants as step_prepare
 use Rattle.sdb_phases.specs.Checks.{base_of, check_of_read, check_of_scan, checks, difference_in, first_difference, wanted}
 use Rattle.sdb_phases.specs.Commit.{Stage, Preparing, Checking, Deciding, Forward, Stopping, Back, Over, after_abort, after_check, after_decide, after_prepare, back, checking, forward, pending, preparing, out_of_memory, out_of_memory_answer, step}
 use Rattle.sdb_phases.specs.Steps.{decide_next, judged, prepare_step, refused, touched_after, validate_step}
-use Rattle.sdb_phases.specs.Work.{Work, abort_of, back_of, backs, prepare_of}
+use Rattle.sdb_phases.specs.Work.{Work, abort_of, back_of, backs, groups_of, prepare_of, prepares_of, writes_before}
 use Rattle.sdb_phases.specs.Work as work
 use Rattle.sdb_validate.specs.Rescan.{IsFirstLost, is_unchanged_at, is_unchanged_by, reads_rise}
 use Rattle.sdb_validate.proofs.Public.{first_lost}
 use Rattle.law_clients.proofs.Public.{each_at, each_filter, each_map, each_more, no_base}
 use Rattle.law_answers.specs.Conflicts.{ChecksBy, ConflictBy, HasPrepared, PreparesOnly}
 use Rattle.law_answers.specs.Changes.{IsReadAt, WorkBy}
+use Rattle.law_answers.proofs.Groups.{all_in_groups, any_at, group_of, map_contains, records_of_group}
+use Rattle.law_answers.proofs.PathLists.{contains_at}
 
 ---- keys
 
@@ -64,6 +70,13 @@ pub mapped_at : {A B : Type 0} (f : A → B) (xs : List A) (i : ℕ) (y : B) →
 mapped_at f [] i y e = none_some y e
 mapped_at f (x ∷ xs) zero y e = (x, refl, some_is (f x) y e)
 mapped_at f (x ∷ xs) (suc i) y e = mapped_at f xs i y e
+
+all_places : (P : Write → Type 0) (ws : List Write) → ((i : ℕ) (w : Write) → slice_get ws i ≡ Some w → P w) → AllByRecursion P ws
+all_places P [] h = tt
+all_places P (w ∷ ws) h = (h 0 w refl, all_places P ws (λ i x e. h (suc i) x e))
+
+pub all_written : (ws : List Write) → AllByRecursion (λ (w : Write). is_written ws w.key ≡ true) ws
+all_written ws = all_places (λ (w : Write). is_written ws w.key ≡ true) ws (written_at ws)
 
 -- the base of a written key is that of a write of it
 base_at_write : (ws : List Write) (k : Key) (v : Option TxId) → base_of ws k ≡ Some v → (j : ℕ) × (w : Write) × (j < length ws) × (slice_get ws j ≡ Some w) × (w.key ≡ k) × (version_of w.base ≡ v)
@@ -105,7 +118,7 @@ pub row_unprepared : (id : TxId) (now : ℤ) → prepares id (abort_of id now) �
 unfolding coordinator_row_of
 row_unprepared id now = refl
 
-pub prepared_is : (id : TxId) (now : ℤ) (w : Write) → prepares id (prepare_of id now w) ≡ true
+pub prepared_is : (id : TxId) (now : ℤ) (w : Write) → is_prepared_record id (prepared_record w id now) ≡ true
 prepared_is id now w = by w.change (prepared-version w id now)
   where
     by : (c : Change) → is_version id (state_of_change c) (prepared_record w id now) ≡ true → (is_version id state.Prepared (prepared_record w id now) || is_version id state.Deleted (prepared_record w id now)) ≡ true
@@ -143,7 +156,7 @@ module _ (p : Work) (read_set : List ReadItem) (w : WorkBy read_set p) (calls : 
   only_more h f = each_more (λ (x : StoreCall). (q : Key) → prepares_key p.id q x ≡ true → is_written p.writes q ≡ true) calls m h (λ q t. clash (sym t ∙ unprepared_key p.id q m f))
 
   -- a conflict stays, where the call prepares nothing
-  unmet_more : (key : Key) (found : Option Record) → IsUnmet calls p.id key found → IsUnmet more p.id key found
+  unmet_more : (key : Key) (found : Option Record) → causes.IsUnmet calls p.id key found → causes.IsUnmet more p.id key found
   unmet_more key found h = (h.0, Contains-append_left calls (m ∷ []) h.0 h.1, h.2, h.3)
 
   conflict_more : (key : Key) (found : Option Record) → prepares p.id m.request ≡ false → ConflictsAtCommit calls read_set p.id key found → ConflictsAtCommit more read_set p.id key found
@@ -162,24 +175,42 @@ module _ (p : Work) (read_set : List ReadItem) (w : WorkBy read_set p) (calls : 
 
   ---- stages
 
-  checking_at : (i : ℕ) → PreparesOnly p more → HasPrepared p (length p.writes) more → ChecksBy read_set p more (checking p i)
+  checking_at : (i : ℕ) → PreparesOnly p more → HasPrepared p (groups_of p) more → ChecksBy read_set p more (checking p i)
   checking_at i o h = elim (nat_lt i (length (checks p))) as (λ b. ChecksBy read_set p more (cond b (Checking i) (Deciding phase.Put))) [ true ↦ (o, h) | false ↦ tt ]
 
   back_at : (a : Outcome) (n i : ℕ) → ConflictBy read_set p more a → ChecksBy read_set p more (back a n i)
   back_at a n i h = elim (nat_lt i n) as (λ b. ChecksBy read_set p more (cond b (Back a n i) (Over a))) [ true ↦ h | false ↦ h ]
 
   forward_at : (i : ℕ) → ChecksBy read_set p more (forward p i)
-  forward_at i = elim (nat_lt i (length p.writes)) as (λ b. ChecksBy read_set p more (cond b (Forward i) (Over outcome.Committed))) [ true ↦ tt | false ↦ tt ]
+  forward_at i = elim (nat_lt i (groups_of p)) as (λ b. ChecksBy read_set p more (cond b (Forward i) (Over outcome.Committed))) [ true ↦ tt | false ↦ tt ]
 
   ---- a prepare
 
-  module _ (i : ℕ) (x : Write) (at : slice_get p.writes i ≡ Some x) (asks : m.request ≡ prepare_of p.id p.now x) (only : PreparesOnly p calls) (done : HasPrepared p i calls) where
-    prepares_it : (q : Key) → prepares_key p.id q m ≡ true → is_written p.writes q ≡ true
-    prepares_it q t =
-        let both : (is_prepared_record p.id (prepared_record x p.id p.now) && same_key (prepared_record x p.id p.now).key q) ≡ true = sym (ap (λ (r : Request). any_of (λ y. is_prepared_record p.id y && same_key y.key q) (records_put r)) asks) ∙ t in
-        let k : same_key (prepared_record x p.id p.now).key q ≡ true = (and_parts (is_prepared_record p.id (prepared_record x p.id p.now)) (same_key (prepared_record x p.id p.now).key q) both).1 in
+  module _ (i : ℕ) (g : List Write) (at : slice_get (grouped p.writes) i ≡ Some g) (asks : m.request ≡ prepares_of p.id p.now g) (only : PreparesOnly p calls) (done : HasPrepared p i calls) where
+    abbrev is_prepare_at : Key → Record → Bool
+    is_prepare_at q y = is_prepared_record p.id y && same_key y.key q
+
+    prepared_in : (x : Write) (q : Key) → is_written p.writes x.key ≡ true → is_prepare_at q (prepared_record x p.id p.now) ≡ true → is_written p.writes q ≡ true
+    prepared_in x q own t =
+        let k : same_key (prepared_record x p.id p.now).key q ≡ true = (and_parts (is_prepared_record p.id (prepared_record x p.id p.now)) (same_key (prepared_record x p.id p.now).key q) t).1 in
         let same : x.key ≡ q = same_key_exact x.key q (sym (ap (λ (z : Key). same_key z q) (prepared-key x p.id p.now)) ∙ k) in
-        ap (is_written p.writes) (sym same) ∙ written_at p.writes i x at
+        ap (is_written p.writes) (sym same) ∙ own
+
+    one_written : (ws : List Write) (q : Key) → AllByRecursion (λ (x : Write). is_written p.writes x.key ≡ true) ws → any_of (is_prepare_at q) (map (λ (x : Write). prepared_record x p.id p.now) ws) ≡ true → is_written p.writes q ≡ true
+    one_written [] q own t = clash (sym t)
+    one_written (x ∷ []) q own t = prepared_in x q own.0 t
+    one_written (x ∷ y ∷ ys) q own t = either (is_prepare_at q (prepared_record x p.id p.now)) refl t (one_written (y ∷ ys) q own.1)
+      where
+        either : (b : Bool) → is_prepare_at q (prepared_record x p.id p.now) ≡ b → (b || any_of (is_prepare_at q) (map (λ (z : Write). prepared_record z p.id p.now) (y ∷ ys))) ≡ true
+            → (any_of (is_prepare_at q) (map (λ (z : Write). prepared_record z p.id p.now) (y ∷ ys)) ≡ true → is_written p.writes q ≡ true) → is_written p.writes q ≡ true
+        either true e h rest = prepared_in x q own.0 e
+        either false e h rest = rest h
+
+    puts_group : records_put m.request ≡ map (λ (x : Write). prepared_record x p.id p.now) g
+    puts_group = ap records_put asks ∙ records_of_group p.id p.now g
+
+    prepares_it : (q : Key) → prepares_key p.id q m ≡ true → is_written p.writes q ≡ true
+    prepares_it q t = one_written g q (each_at (AllByRecursion (λ (x : Write). is_written p.writes x.key ≡ true)) (grouped p.writes) i g (grouped_all (λ (x : Write). is_written p.writes x.key ≡ true) p.writes (all_written p.writes)) at) (sym (ap (any_of (is_prepare_at q)) puts_group) ∙ t)
 
     only_now : PreparesOnly p more
     only_now = each_more (λ (y : StoreCall). (q : Key) → prepares_key p.id q y ≡ true → is_written p.writes q ≡ true) calls m only prepares_it
@@ -190,40 +221,73 @@ module _ (p : Work) (read_set : List ReadItem) (w : WorkBy read_set p) (calls : 
         last : (j i : ℕ) → j < i + 1 → (j < i) ⊎ (j ≡ i)
         last j i l = grind (arith, nat_tests)
 
-        by : (j < i) ⊎ (j ≡ i) → (z : StoreCall) × Contains more z × (z.request ≡ prepare_of p.id p.now y)
+        by : (j < i) ⊎ (j ≡ i) → (z : StoreCall) × Contains more z × (z.request ≡ prepares_of p.id p.now y)
         by (inl k) = prepared_more i done j y k e
-        by (inr k) = let same : x ≡ y = some_is x y (sym at ∙ sym (ap (slice_get p.writes) k) ∙ e) in (m, Contains-push calls m, asks ∙ ap (prepare_of p.id p.now) same)
+        by (inr k) = let same : g ≡ y = some_is g y (sym at ∙ sym (ap (slice_get (grouped p.writes)) k) ∙ e) in (m, Contains-push calls m, asks ∙ ap (prepares_of p.id p.now) same)
 
-    noted_base : IsReadAt read_set x.key (version_of x.base)
-    noted_base = each_at (λ (z : Write). IsReadAt read_set z.key (version_of z.base)) p.writes i x w.writes at
-
-    unmet_now : (found : Option Record) → m.reply ≡ reply.NotMet found → CanAnswer m.request m.reply → ConflictsAtCommit more read_set p.id (prepared_record x p.id p.now).key found
-    unmet_now found f can =
-        let k : CanAnswer (prepare_of p.id p.now x) (reply.NotMet found) = subst (λ (r : Request). CanAnswer r (reply.NotMet found)) asks (subst (CanAnswer m.request) f can) in
+    -- the write of that place in the group was read, and its prepare found something else
+    unmet_write : (j : ℕ) (x : Write) (found : Option Record) → slice_get g j ≡ Some x → is_unchanged found (version_of x.base) ≡ false → Contains (observed_in m.request m.reply) ((prepared_record x p.id p.now).key, found) → ConflictsAtCommit more read_set p.id (prepared_record x p.id p.now).key found
+    unmet_write j x found e changed observed =
+        let base : IsReadAt read_set x.key (version_of x.base) =
+        each_at (λ (z : Write). IsReadAt read_set z.key (version_of z.base)) g j x (each_at (AllByRecursion (λ (z : Write). IsReadAt read_set z.key (version_of z.base))) (grouped p.writes) i g (grouped_all (λ (z : Write). IsReadAt read_set z.key (version_of z.base)) p.writes w.writes) at) e in
         let key : (prepared_record x p.id p.now).key ≡ x.key = prepared-key x p.id p.now in
+        let own : is_prepare_at (prepared_record x p.id p.now).key (prepared_record x p.id p.now) ≡ true = ap (λ b. b && same_key (prepared_record x p.id p.now).key (prepared_record x p.id p.now).key) (prepared_is p.id p.now x) ∙ same_key_self (prepared_record x p.id p.now).key in
         let asked : prepares_key p.id (prepared_record x p.id p.now).key m ≡ true =
-        ap (λ (r : Request). any_of (λ y. is_prepared_record p.id y && same_key y.key (prepared_record x p.id p.now).key) (records_put r)) asks
-        ∙ ap (λ b. b && same_key (prepared_record x p.id p.now).key (prepared_record x p.id p.now).key) (prepared_is p.id p.now x) ∙ same_key_self (prepared_record x p.id p.now).key in
-        inl ((noted_base.item, version_of x.base, noted_base.among, ap (version_read noted_base.item) key ∙ noted_base.as_read, k.1), inl (m, Contains-push calls m, asked, unmet_observed p.id (prepared_record x p.id p.now).key found m.request m.reply asked f))
+        ap (any_of (is_prepare_at (prepared_record x p.id p.now).key)) puts_group
+        ∙ any_at (is_prepare_at (prepared_record x p.id p.now).key) (map (λ (z : Write). prepared_record z p.id p.now) g) j (prepared_record x p.id p.now) (slice_get-map (λ (z : Write). prepared_record z p.id p.now) g j ∙ ap (option_map (λ (z : Write). prepared_record z p.id p.now)) e) own in
+        inl ((base.item, version_of x.base, base.among, ap (version_read base.item) key ∙ base.as_read, changed), inl (m, Contains-push calls m, asked, observed))
 
-    refused_at : (n : ℕ) (o : Option Request) (found : Option Record) → Some (prepare_of p.id p.now x) ≡ o → m.reply ≡ reply.NotMet found → CanAnswer m.request m.reply → ChecksBy read_set p more (after_prepare p i n (refused o found))
-    refused_at n o found e f can = subst (λ (z : Option Request). ChecksBy read_set p more (after_prepare p i n (refused z found))) e (unmet_now found f can)
+    can_then : (r : Reply) → m.reply ≡ r → CanAnswer m.request m.reply → CanAnswer (prepares_of p.id p.now g) r
+    can_then r f can = subst (λ (q : Request). CanAnswer q r) asks (subst (CanAnswer m.request) f can)
 
-    prepared_at : (b : Bool) (n : ℕ) (o : Option Request) (r : Reply) → nat_lt (i + 1) (length p.writes) ≡ b → Some (prepare_of p.id p.now x) ≡ o → m.reply ≡ r → CanAnswer m.request m.reply → ChecksBy read_set p more (after_prepare p i n (prepare_step b o r))
+    -- what the reply to the prepare shows
+    observes : (r : Reply) (key : Key) (found : Option Record) → m.reply ≡ r → Contains (observed_in (prepares_of p.id p.now g) r) (key, found) → Contains (observed_in m.request m.reply) (key, found)
+    observes r key found f h = subst (λ (y : Reply). Contains (observed_in m.request y) (key, found)) (sym f) (subst (λ (q : Request). Contains (observed_in q r) (key, found)) (sym asks) h)
+
+    not_met_at : (n : ℕ) (g1 : List Write) (found : Option Record) → g ≡ g1 → m.reply ≡ reply.NotMet found → CanAnswer (prepares_of p.id p.now g1) (reply.NotMet found) → ChecksBy read_set p more (after_prepare p i n (refused (Some (prepares_of p.id p.now g1)) 1 found))
+    not_met_at n [] found e f can = absurd can
+    not_met_at n (x ∷ []) found e f can =
+        unmet_write 0 x found (ap (λ ws. slice_get ws 0) e) can.1 (observes (reply.NotMet found) (prepared_record x p.id p.now).key found f (subst (λ ws. Contains (observed_in (prepares_of p.id p.now ws) (reply.NotMet found)) ((prepared_record x p.id p.now).key, found)) (sym e) (in_only ((prepared_record x p.id p.now).key, found) ((prepared_record x p.id p.now).key, found) refl)))
+    not_met_at n (x ∷ y ∷ ys) found e f can = absurd can
+
+    abbrev puts_for : List Write → List Put
+    puts_for ws = map (prepare_of p.id p.now) ws
+
+    not_all_at : (n k : ℕ) (g1 : List Write) (found : Option Record) → g ≡ g1 → m.reply ≡ reply.NotAll k found → CanAnswer (prepares_of p.id p.now g1) (reply.NotAll k found) → ChecksBy read_set p more (after_prepare p i n (refused (Some (prepares_of p.id p.now g1)) k found))
+    not_all_at n k [] found e f can = tt
+    not_all_at n k (x ∷ []) found e f can = absurd can
+    not_all_at n k (x ∷ y ∷ ys) found e f can = by (put_at (puts_for (x ∷ y ∷ ys)) k) refl can.1
+      where
+        conflict : (u : Put) (z : Write) → put_at (puts_for (x ∷ y ∷ ys)) k ≡ Some u → slice_get (x ∷ y ∷ ys) (k - 1) ≡ Some z → prepare_of p.id p.now z ≡ u → IsUnmet u.condition u.rec.key found → ConflictsAtCommit more read_set p.id u.rec.key found
+        conflict u z there place same unmet =
+            subst (λ (v : Put). ConflictsAtCommit more read_set p.id v.rec.key found) same
+            (unmet_write (k - 1) z found (ap (λ ws. slice_get ws (k - 1)) e ∙ place) (subst (λ (v : Put). IsUnmet v.condition v.rec.key found) (sym same) unmet).1
+            (observes (reply.NotAll k found) (prepared_record z p.id p.now).key found f (subst (λ ws. Contains (observed_in (prepares_of p.id p.now ws) (reply.NotAll k found)) ((prepared_record z p.id p.now).key, found)) (sym e)
+            (unmet_all_observed found (puts_for (x ∷ y ∷ ys)) k (prepare_of p.id p.now z) (there ∙ ap Some (sym same))))))
+
+        by : (o : Option Put) → put_at (puts_for (x ∷ y ∷ ys)) k ≡ o → IsSomeAnd o (λ (u : Put). IsUnmet u.condition u.rec.key found) → ChecksBy read_set p more (after_prepare p i n (option_map_or (λ (u : Put). step_prepare.Conflict u.rec.key found) o step_prepare.NoMemory))
+        by None there unmet = tt
+        by (Some u) there unmet = let r = mapped_at (prepare_of p.id p.now) (x ∷ y ∷ ys) (k - 1) u there in conflict u r.0 there r.1 r.2 unmet
+
+    refused_at : (n k : ℕ) (o : Option Request) (found : Option Record) → Some (prepares_of p.id p.now g) ≡ o → ChecksBy read_set p more (after_prepare p i n (refused (Some (prepares_of p.id p.now g)) k found)) → ChecksBy read_set p more (after_prepare p i n (refused o k found))
+    refused_at n k o found e h = subst (λ (z : Option Request). ChecksBy read_set p more (after_prepare p i n (refused z k found))) e h
+
+    prepared_at : (b : Bool) (n : ℕ) (o : Option Request) (r : Reply) → nat_lt (i + 1) (groups_of p) ≡ b → Some (prepares_of p.id p.now g) ≡ o → m.reply ≡ r → CanAnswer m.request m.reply → ChecksBy read_set p more (after_prepare p i n (prepare_step b o r))
     prepared_at true n o reply.Applied l e f can = (only_now, prepared_now)
-    prepared_at false n o reply.Applied l e f can = checking_at 0 only_now (λ j y k z. prepared_now j y (all j (i + 1) (length p.writes) l k) z)
+    prepared_at false n o reply.Applied l e f can = checking_at 0 only_now (λ j y k z. prepared_now j y (all j (i + 1) (groups_of p) l k) z)
       where
         all : (j n k : ℕ) → nat_lt n k ≡ false → j < k → j < n
         all j n k l h = grind (arith, nat_tests)
-    prepared_at b n o (reply.NotMet found) l e f can = refused_at n o found e f can
+    prepared_at b n o (reply.NotMet found) l e f can = refused_at n 1 o found e (not_met_at n g found refl f (can_then (reply.NotMet found) f can))
     prepared_at b n o reply.Fault l e f can = tt
     prepared_at b n o (reply.Found found) l e f can = tt
     prepared_at b n o (reply.Rows rows) l e f can = tt
+    prepared_at b n o (reply.NotAll place there) l e f can = refused_at n place o there e (not_all_at n place g there refl f (can_then (reply.NotAll place there) f can))
     prepared_at b n o reply.NoMemory l e f can = tt
 
   ---- checks
 
-  module _ (only : PreparesOnly p more) (done : HasPrepared p (length p.writes) more) where
+  module _ (only : PreparesOnly p more) (done : HasPrepared p (groups_of p) more) where
     -- where a check differs there is a conflict
     abbrev Differs : Check → Type 0
     Differs c = (r : Reply) → m.request ≡ c.request → m.reply ≡ r → CanAnswer c.request r → (d : Key × Option Record) → difference_in c r ≡ Some d → ConflictsAtCommit more read_set p.id d.0 d.1
@@ -238,6 +302,7 @@ module _ (p : Work) (read_set : List ReadItem) (w : WorkBy read_set p) (calls : 
             subst (λ (z : Key × Option Record). ConflictsAtCommit more read_set p.id z.0 z.1) same
             (inl ((KeyRead r, r.version, as_read, ap (λ b. if b then Some r.version else None) (same_key_self r.key), t), inr (m, Contains-push calls m, inl (e, f), none_prepares p more r.key only free)))
     read_differs r as_read free (reply.Rows rows) e f can d h = none_some d h
+    read_differs r as_read free (reply.NotAll place there) e f can d h = none_some d h
     read_differs r as_read free reply.Applied e f can d h = none_some d h
     read_differs r as_read free (reply.NotMet found) e f can d h = none_some d h
     read_differs r as_read free reply.Fault e f can d h = none_some d h
@@ -272,7 +337,8 @@ module _ (p : Work) (read_set : List ReadItem) (w : WorkBy read_set p) (calls : 
       lost_written : (k : Key) (base : Option TxId) → in_span x.span k ≡ true → base_of p.writes k ≡ Some base → same_version base (version_among x.found k) ≡ false → ConflictsAtCommit more read_set p.id k (record_among rows k)
       lost_written k base i own h =
           let b = base_at_write p.writes k base own in
-          let made = done b.0 b.1 b.2 b.3 in
+          let group = group_of p.writes b.1 (contains_at p.writes b.0 b.1 b.3) in
+          let made = done group.0 group.1 group.2 group.3 in
           let valid : IsWrite b.1 = each_at IsWrite p.writes b.0 b.1 w.valid b.3 in
           inr (
             (m, Contains-push calls m, shows_at k i),
@@ -283,7 +349,7 @@ module _ (p : Work) (read_set : List ReadItem) (w : WorkBy read_set p) (calls : 
               made.1,
               (
                 prepared_record b.1 p.id p.now,
-                put_among made.0.request (prepared_record b.1 p.id p.now) (ap put_by made.2),
+                subst (λ rs. Contains rs (prepared_record b.1 p.id p.now)) (sym (ap records_put made.2 ∙ records_of_group p.id p.now group.1)) (map_contains (λ (y : Write). prepared_record y p.id p.now) group.1 b.1 group.4),
                 prepared_is p.id p.now b.1,
                 prepared-key b.1 p.id p.now ∙ b.4,
                 ap version_of (prepared-base b.1 p.id p.now valid) ∙ b.5,
@@ -320,6 +386,7 @@ module _ (p : Work) (read_set : List ReadItem) (w : WorkBy read_set p) (calls : 
     scan_differs x as_read inside rises (reply.Found found) e f can d h = none_some d h
     scan_differs x as_read inside rises reply.Applied e f can d h = none_some d h
     scan_differs x as_read inside rises (reply.NotMet found) e f can d h = none_some d h
+    scan_differs x as_read inside rises (reply.NotAll place there) e f can d h = none_some d h
     scan_differs x as_read inside rises reply.Fault e f can d h = none_some d h
     scan_differs x as_read inside rises reply.NoMemory e f can d h = none_some d h
 
@@ -348,10 +415,12 @@ module _ (p : Work) (read_set : List ReadItem) (w : WorkBy read_set p) (calls : 
     checked_at b i None (reply.NotMet found) h f can = tt
     checked_at b i None (reply.Found found) h f can = tt
     checked_at b i None (reply.Rows rows) h f can = tt
+    checked_at b i None (reply.NotAll place there) h f can = tt
     checked_at b i (Some c) reply.Applied h f can = judged_at b i (difference_in c reply.Applied) (λ d e. let k = h c refl in k.1 reply.Applied k.0 f (subst (λ (q : Request). CanAnswer q reply.Applied) k.0 (subst (CanAnswer m.request) f can)) d e)
     checked_at b i (Some c) (reply.NotMet found) h f can = judged_at b i (difference_in c (reply.NotMet found)) (λ d e. let k = h c refl in k.1 (reply.NotMet found) k.0 f (subst (λ (q : Request). CanAnswer q (reply.NotMet found)) k.0 (subst (CanAnswer m.request) f can)) d e)
     checked_at b i (Some c) (reply.Found found) h f can = judged_at b i (difference_in c (reply.Found found)) (λ d e. let k = h c refl in k.1 (reply.Found found) k.0 f (subst (λ (q : Request). CanAnswer q (reply.Found found)) k.0 (subst (CanAnswer m.request) f can)) d e)
     checked_at b i (Some c) (reply.Rows rows) h f can = judged_at b i (difference_in c (reply.Rows rows)) (λ d e. let k = h c refl in k.1 (reply.Rows rows) k.0 f (subst (λ (q : Request). CanAnswer q (reply.Rows rows)) k.0 (subst (CanAnswer m.request) f can)) d e)
+    checked_at b i (Some c) (reply.NotAll place there) h f can = judged_at b i (difference_in c (reply.NotAll place there)) (λ d e. let k = h c refl in k.1 (reply.NotAll place there) k.0 f (subst (λ (q : Request). CanAnswer q (reply.NotAll place there)) k.0 (subst (CanAnswer m.request) f can)) d e)
 
   ---- the other stages
 
@@ -369,6 +438,7 @@ module _ (p : Work) (read_set : List ReadItem) (w : WorkBy read_set p) (calls : 
   stop_at a n (reply.NotMet found) h = back_at a n 0 h
   stop_at a n (reply.Found found) h = h
   stop_at a n (reply.Rows rows) h = h
+  stop_at a n (reply.NotAll place there) h = h
   stop_at a n reply.Fault h = h
   stop_at a n reply.NoMemory h = h
 
@@ -395,18 +465,18 @@ module _ (p : Work) (read_set : List ReadItem) (w : WorkBy read_set p) (calls : 
 
   back_prepares_none : (i : ℕ) → slice_get (backs p) i ≡ Some m.request → prepares p.id m.request ≡ false
   back_prepares_none i e =
-      let r = mapped_at (back_of p.id) p.writes i m.request e in
-      let valid : IsWrite r.0 = each_at IsWrite p.writes i r.0 w.valid r.1 in
+      let r = mapped_at (back_of p.id) (in_groups p.writes) i m.request e in
+      let valid : IsWrite r.0 = each_at IsWrite (in_groups p.writes) i r.0 (all_in_groups IsWrite p.writes w.valid) r.1 in
       sym (ap (prepares p.id) r.2) ∙ undo_unprepared p.id r.0.key r.0.base (work.is_as_prepared p.id r.0) valid.base
 
   pub checks_on : (s : Stage) → ChecksBy read_set p calls s → pending p s ≡ Some m.request → CanAnswer m.request m.reply → ChecksBy read_set p more (step p s m.reply)
   checks_on (Preparing i) h e can =
-      let r = mapped_at (prepare_of p.id p.now) p.writes i m.request e in
-      prepared_at i r.0 r.1 (sym r.2) h.0 h.1 (nat_lt (i + 1) (length p.writes)) (touched_after i m.reply) (slice_get (work.prepares p) i) m.reply refl (ap Some r.2 ∙ sym e) refl can
+      let r = mapped_at (prepares_of p.id p.now) (grouped p.writes) i m.request e in
+      prepared_at i r.0 r.1 (sym r.2) h.0 h.1 (nat_lt (i + 1) (groups_of p)) (touched_after (slice_get (work.prepares p) i) (writes_before p i) m.reply) (slice_get (work.prepares p) i) m.reply refl (ap Some r.2 ∙ sym e) refl can
   checks_on (Checking i) h e can =
       let free : prepares p.id m.request ≡ false = asked_check i checks_prepare_none e in
-      checked_at (only_more h.0 free) (prepared_more (length p.writes) h.1) (nat_lt (i + 1) (length (checks p))) i (slice_get (checks p) i) m.reply
-      (λ c k. (sym (some_is c.request m.request (sym (ap (option_map (λ (z : Check). z.request)) k) ∙ e)), each_at (Differs (only_more h.0 free) (prepared_more (length p.writes) h.1)) (checks p) i c (all_differ (only_more h.0 free) (prepared_more (length p.writes) h.1)) k)) refl can
+      checked_at (only_more h.0 free) (prepared_more (groups_of p) h.1) (nat_lt (i + 1) (length (checks p))) i (slice_get (checks p) i) m.reply
+      (λ c k. (sym (some_is c.request m.request (sym (ap (option_map (λ (z : Check). z.request)) k) ∙ e)), each_at (Differs (only_more h.0 free) (prepared_more (groups_of p) h.1)) (checks p) i c (all_differ (only_more h.0 free) (prepared_more (groups_of p) h.1)) k)) refl can
   checks_on (Deciding d) h e can = decided_at (decide_next p.id d m.reply).0 (decide_next p.id d m.reply).1
   checks_on (Forward i) h e can = forward_at (i + 1)
   checks_on (Stopping a n) h e can = stop_at a n m.reply (by_more a (sym (ap (prepares p.id) (some_is (abort_of p.id p.now) m.request e)) ∙ row_unprepared p.id p.now) h)
@@ -452,7 +522,7 @@ starved_checks read_set p calls (Over a) h = by a h
 
 -- where a COMMIT begins
 pub begins_checked : (read_set : List ReadItem) (p : Work) → ChecksBy read_set p [] (preparing p 0)
-begins_checked read_set p = by (nat_lt 0 (length p.writes)) refl (nat_lt 0 (length (checks p)))
+begins_checked read_set p = by (nat_lt 0 (groups_of p)) refl (nat_lt 0 (length (checks p)))
   where
     below : (j : ℕ) → j < 0 → ⊥
     below j l = absurd (omega arith)
@@ -460,7 +530,7 @@ begins_checked read_set p = by (nat_lt 0 (length p.writes)) refl (nat_lt 0 (leng
     empty : (j n : ℕ) → nat_lt 0 n ≡ false → j < n → ⊥
     empty j n f l = absurd (grind (arith, nat_tests))
 
-    by : (a : Bool) → nat_lt 0 (length p.writes) ≡ a → (b : Bool) → ChecksBy read_set p [] (if a then Preparing 0 else (if b then Checking 0 else Deciding phase.Put))
+    by : (a : Bool) → nat_lt 0 (groups_of p) ≡ a → (b : Bool) → ChecksBy read_set p [] (if a then Preparing 0 else (if b then Checking 0 else Deciding phase.Put))
     by true e b = (tt, λ j w l k. absurd (below j l))
-    by false e true = (tt, λ j w l k. absurd (empty j (length p.writes) e l))
+    by false e true = (tt, λ j w l k. absurd (empty j (groups_of p) e l))
     by false e false = tt

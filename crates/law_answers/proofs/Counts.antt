@@ -147,6 +147,7 @@ module _ (calls : List StoreCall) (m : StoreCall) where
   answered_counted (reply.Rows rows) few h = settled_counted [] rows h
   answered_counted reply.Applied few h = few
   answered_counted (reply.NotMet found) few h = few
+  answered_counted (reply.NotAll place there) few h = few
   answered_counted reply.Fault few h = few
   answered_counted reply.NoMemory few h = few
 
@@ -233,6 +234,7 @@ answered_light ss n (reply.Rows rows) = on_light ss n rows
 answered_light ss n (reply.Found found) = omega arith
 answered_light ss n reply.Applied = omega arith
 answered_light ss n (reply.NotMet found) = omega arith
+answered_light ss n (reply.NotAll place there) = omega arith
 answered_light ss n reply.Fault = omega arith
 answered_light ss n reply.NoMemory = omega arith
 
@@ -257,6 +259,7 @@ removal_light ss n left reply.Applied = on_light ss (n + 1) left
 removal_light ss n left (reply.NotMet found) = on_light ss n left
 removal_light ss n left (reply.Found found) = omega arith
 removal_light ss n left (reply.Rows rows) = omega arith
+removal_light ss n left (reply.NotAll place there) = omega arith
 removal_light ss n left reply.Fault = omega arith
 removal_light ss n left reply.NoMemory = omega arith
 

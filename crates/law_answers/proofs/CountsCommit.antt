@@ -1,50 +1,53 @@
 -- How many calls a COMMIT has made, one call after the other.
 use Rattle.std.proofs.Common.{subst, ◌≡◌, ◌≢◌, ◌≤◌, ◌<◌, ◌+◌, ◌*◌, ℕ, ℤ, zero, suc, Bool, true, false, not, List, [], ◌∷◌, ◌++◌, length, map, take, Option, Some, None, Result, Ok, Err, refl, sym, ap, ◌∙◌, arith}
-use Rattle.std.specs.Prelude.{if◌then◌else◌, ◌&&◌, ◌||◌, filter, is_some, nat_lt, slice_get}
+use Rattle.std.specs.Prelude.{if◌then◌else◌, ◌&&◌, ◌||◌, filter, nat_lt, slice_get, sum_by}
 use Rattle.std.specs.List.{AllByRecursion, count_by, list_any}
 use Rattle.std.specs.Option.{option_map, option_map_or}
-use Rattle.std.specs.Ordering.{is_eq}
 use Rattle.std.proofs.lemmas.Bool.Decides.{nat_tests}
-use Rattle.std.proofs.lemmas.List.{append-nil, length-append, length-map, take_all}
+use Rattle.std.proofs.lemmas.List.{append-nil, length-append, length-map, take-map, take_all}
 use Rattle.std.proofs.lemmas.List.Elements.{filter-append}
-use Rattle.std.proofs.lemmas.List.Sums.{length-filter}
+use Rattle.std.proofs.lemmas.List.Sums.{length-filter, sum_by-cons}
 use Rattle.std.proofs.lemmas.Option.{slice_get_within}
-use Rattle.law_answers.specs.Types.{Answer, Check, Condition, DecidePhase, DecideStep, Decided, Key, Outcome, Read, Record, Reply, Request, Scan, State, TxId, Write}
+use Rattle.law_answers.specs.Types.{Answer, Check, Condition, DecidePhase, DecideStep, Decided, Key, Outcome, Put, Read, Record, Reply, Request, Scan, State, TxId, Write}
 use Rattle.sdb_types.specs.declared.record.Reply.TheVariants as reply
 use Rattle.sdb_types.specs.declared.record.Request.TheVariants as ask
 use Rattle.sdb_types.specs.declared.record.State.TheVariants as state
 use Rattle.sdb_types.specs.declared.value.Value.TheVariants as value
 use Rattle.sdb_types.specs.Columns.{column}
 use Rattle.sdb_types.specs.TxId.{id_text}
-use Rattle.sdb_types.specs.Contents.{has_value, is_version, state_number, tx_id}
-use Rattle.sdb_types.specs.Order.{key_cmp, same_key}
-use Rattle.sdb_types.proofs.Public.{append_all as each_append, clash, none_some, same_key_is, some_is}
+use Rattle.sdb_types.specs.Contents.{has_value, is_version, put_at, state_number, tx_id}
+use Rattle.sdb_types.proofs.Public.{append_all as each_append, clash, none_some, some_is}
 use Rattle.sdb_record.specs.declared.coordinator.Decision.TheVariants as decision
 use Rattle.sdb_record.specs.Coordinator.{coordinator_key_of, coordinator_row_of, decision_in}
+use Rattle.sdb_record.specs.Groups.{IsGroup, grouped, in_groups, ungrouped}
 use Rattle.sdb_record.specs.Rolls.{IsWrite, forward_record, prepared_record}
-use Rattle.sdb_record.proofs.Public.{forward-state, prepared-key}
-use Rattle.sdb_record.specs.Among.{is_written, write_among}
+use Rattle.sdb_record.proofs.Public.{each_group, forward-state, in_groups_length}
+use Rattle.sdb_record.specs.Among.{is_written}
 use Rattle.sdb_model.specs.declared.answer.Answer.TheVariants as answer
-use Rattle.sdb_model.specs.Calls.{StoreCall, key_asked}
-use Rattle.sdb_model.specs.Counted.{is_checked_get, is_key_of, is_scan, prepares_in}
+use Rattle.sdb_model.specs.Calls.{StoreCall}
+use Rattle.sdb_model.specs.Counted.{is_checked_get, is_key_of, is_scan, prepares_in, puts_prepared}
 use Rattle.sdb_model.specs.ReadSet.{KeyRead, ReadItem, SpanRead}
-use Rattle.sdb_model.specs.Transactions.{prepares}
+use Rattle.sdb_model.specs.Requests.{any_of, records_put}
+use Rattle.sdb_model.specs.Transactions.{is_prepared_record, prepares}
 use Rattle.sdb_phases.specs.declared.step.DecidePhase.TheVariants as phase
 use Rattle.sdb_phases.specs.declared.step.DecideStep.TheVariants as decide
 use Rattle.sdb_phases.specs.declared.step.Outcome.TheVariants as outcome
+use Rattle.sdb_phases.specs.declared.step.PrepareStep.TheVariants as step_prepare
 use Rattle.sdb_phases.specs.Checks.{check_of_read, check_of_scan, checks, difference_in}
 use Rattle.sdb_phases.specs.Commit.{Stage, Preparing, Checking, Deciding, Forward, Stopping, Back, Over, after_abort, after_check, after_decide, after_prepare, back, checking, decided, forward, pending, preparing, out_of_memory, out_of_memory_answer, step}
-use Rattle.sdb_phases.specs.Steps.{decide_next, decide_request_at, judged, prepare_step, refused, step_of_row, touched_after, validate_step}
-use Rattle.sdb_phases.proofs.Public.{by_rows}
-use Rattle.sdb_phases.specs.Work.{Work, abort_of, back_of, backs, decide_of, forward_of, forwards, look_of, prepare_of}
+use Rattle.sdb_phases.specs.Steps.{decide_next, decide_request_at, judged, prepare_step, puts_of, refused, step_of_row, touched_after, validate_step}
+use Rattle.sdb_phases.proofs.Public.{by_rows, few_groups, writes_more}
+use Rattle.sdb_phases.specs.Work.{Work, abort_of, back_of, backs, decide_of, forward_of, forwards, forwards_of, groups_of, look_of, prepares_of, writes_before}
 use Rattle.sdb_phases.specs.Work as work
 use Rattle.law_clients.proofs.Public.{each_at, each_map}
 use Rattle.sdb_client.specs.Step.{answer_of_outcome}
 use Rattle.law_answers.specs.Commits.{EndsBy}
-use Rattle.law_answers.specs.Counts.{AllPut, CommitCounted, CommitIsCounted, HasPut, NoneFaulted, ReadItemsAre, decides, keys_got, later_by, wanted_by}
-use Rattle.law_answers.proofs.Conflicts.{key_turned, mapped_at, prepared_is, row_unprepared, undo_unprepared}
+use Rattle.law_answers.specs.Counts.{AllPut, CommitCounted, CommitIsCounted, HasPut, NoneFaulted, ReadItemsAre, allowed_by, checks_by, decides, keys_got, later_by, wanted_by}
+use Rattle.law_answers.proofs.Conflicts.{mapped_at, prepared_is, row_unprepared, undo_unprepared}
 use Rattle.sdb_types.specs.Replies.{is_fault}
 use Rattle.law_answers.proofs.Counts.{calls_more}
+use Rattle.law_answers.proofs.Groups.{all_in_groups, any_at, records_of_group}
+use Rattle.law_answers.proofs.PreparedKeys.{put_keys}
 use Rattle.law_answers.proofs.Lists.{map_more}
 
 ---- lists
@@ -61,25 +64,6 @@ take_more {X = X} xs i x e = ap (λ n. take n xs) (one i) ∙ by xs i e
     by (y ∷ ys) (suc j) k = ap (λ r. y ∷ r) (by ys j k)
 
 ---- what a COMMIT is to make
-
--- the keys that were prepared are those that are written
-abbrev asks_key : Key → Request → Bool
-asks_key key q = option_map_or (λ k. is_eq (key_cmp k key)) (key_asked q) false
-
-any_asked : (calls : List StoreCall) (key : Key) → list_any (is_key_of key) calls ≡ list_any (asks_key key) (map (λ m. m.request) calls)
-any_asked [] key = refl
-any_asked (m ∷ ms) key = ap (λ b. asks_key key m.request || b) (any_asked ms key)
-
-any_written : (p : Work) (ws : List Write) (key : Key) → list_any (asks_key key) (map (prepare_of p.id p.now) ws) ≡ is_written ws key
-any_written p [] key = refl
-any_written p (w ∷ ws) key = ap (λ b. b || list_any (asks_key key) (map (prepare_of p.id p.now) ws)) (ap (λ (k : Key). is_eq (key_cmp k key)) (prepared-key w p.id p.now) ∙ key_turned w.key key ∙ sym (same_key_is key w.key)) ∙ by (same_key key w.key) (any_written p ws key)
-  where
-    by : (b : Bool) → list_any (asks_key key) (map (prepare_of p.id p.now) ws) ≡ is_written ws key → (b || list_any (asks_key key) (map (prepare_of p.id p.now) ws)) ≡ is_some (if b then Some w else write_among ws key)
-    by true e = refl
-    by false e = e
-
-put_keys : (p : Work) (calls : List StoreCall) (key : Key) → AllPut p calls → list_any (is_key_of key) (prepares_in p.id calls) ≡ is_written p.writes key
-put_keys p calls key all = any_asked (prepares_in p.id calls) key ∙ ap (list_any (asks_key key)) all ∙ any_written p p.writes key
 
 -- the gets that are checked are those of keys that aren't written
 abbrev is_unput : List StoreCall → Key → Bool
@@ -111,18 +95,55 @@ checks_long p =
     ∙ ap (λ n. n + length (map (check_of_scan p.writes) p.scans)) (length-map (filter (λ r. not (is_written p.writes r.key)) p.reads) check_of_read)
     ∙ ap (λ n. length (filter (λ r. not (is_written p.writes r.key)) p.reads) + n) (length-map p.scans (check_of_scan p.writes))
 
--- Where all writes were prepared that is two calls for each, and one for each check.
-wanted_is : (read_set : List ReadItem) (p : Work) (calls : List StoreCall) → ReadItemsAre read_set p.reads p.scans → AllPut p calls → wanted_by read_set p.id calls ≡ 2 * length p.writes + length (checks p)
-wanted_is read_set p calls as_read all = sum (length (prepares_in p.id calls)) (length p.writes) (count_by (is_checked_get (prepares_in p.id calls)) read_set) (length (filter (λ r. not (is_written p.writes r.key)) p.reads)) (count_by is_scan read_set) (length p.scans) (length (checks p)) puts gets as_read.scans (checks_long p)
+---- how many were prepared
+
+puts_by_request : (ms : List StoreCall) → sum_by (λ m. length (records_put m.request)) ms ≡ sum_by (λ q. length (records_put q)) (map (λ m. m.request) ms)
+puts_by_request [] = refl
+puts_by_request (m ∷ ms) =
+    sum_by-cons (λ (x : StoreCall). length (records_put x.request)) m ms ∙ ap (λ n. length (records_put m.request) + n) (puts_by_request ms)
+    ∙ sym (sum_by-cons (λ q. length (records_put q)) m.request (map (λ (x : StoreCall). x.request) ms))
+
+puts_of_groups : (id : TxId) (now : ℤ) (gs : List (List Write)) → sum_by (λ q. length (records_put q)) (map (prepares_of id now) gs) ≡ length (ungrouped gs)
+puts_of_groups id now [] = refl
+puts_of_groups id now (g ∷ gs) =
+    omega (arith, sum_by-cons (λ q. length (records_put q)) (prepares_of id now g) (map (prepares_of id now) gs), ap length (records_of_group id now g), length-map g (λ w. prepared_record w id now), puts_of_groups id now gs, length-append g (ungrouped gs))
+
+-- the first groups were prepared
+puts_first : (p : Work) (i : ℕ) (calls : List StoreCall) → HasPut p i calls → puts_prepared p.id calls ≡ writes_before p i
+puts_first p i calls put =
+    puts_by_request (prepares_in p.id calls) ∙ ap (sum_by (λ q. length (records_put q))) (put ∙ take-map (prepares_of p.id p.now) i (grouped p.writes)) ∙ puts_of_groups p.id p.now (take i (grouped p.writes))
+
+module _ (p : Work) (calls : List StoreCall) (all : AllPut p calls) where
+  groups_put : length (prepares_in p.id calls) ≡ groups_of p
+  groups_put = sym (length-map (prepares_in p.id calls) (λ (m : StoreCall). m.request)) ∙ ap length all ∙ length-map (grouped p.writes) (prepares_of p.id p.now)
+
+  writes_put : puts_prepared p.id calls ≡ length p.writes
+  writes_put = puts_by_request (prepares_in p.id calls) ∙ ap (sum_by (λ q. length (records_put q))) all ∙ puts_of_groups p.id p.now (grouped p.writes) ∙ in_groups_length p.writes
+
+  checks_are : (read_set : List ReadItem) → ReadItemsAre read_set p.reads p.scans → checks_by read_set p.id calls ≡ length (checks p)
+  checks_are read_set as_read =
+      sum (count_by (is_checked_get (prepares_in p.id calls)) read_set) (length (filter (λ r. not (is_written p.writes r.key)) p.reads)) (count_by is_scan read_set) (length p.scans) (length (checks p)) gets as_read.scans (checks_long p)
+    where
+      gets : count_by (is_checked_get (prepares_in p.id calls)) read_set ≡ length (filter (λ r. not (is_written p.writes r.key)) p.reads)
+      gets = sym (length-filter (is_checked_get (prepares_in p.id calls)) read_set) ∙ gets_are (prepares_in p.id calls) read_set ∙ ap (λ ks. length (filter (is_unput (prepares_in p.id calls)) ks)) as_read.reads ∙ unput_is p calls all p.reads
+
+      sum : (g h s t c : ℕ) → g ≡ h → s ≡ t → c ≡ h + t → g + s ≡ c
+      sum g h s t c f k l = omega (arith, f, k, l)
+
+-- Where all groups were prepared that is two calls for each, and one for each check.
+wanted_is : (read_set : List ReadItem) (p : Work) (calls : List StoreCall) → ReadItemsAre read_set p.reads p.scans → AllPut p calls → wanted_by read_set p.id calls ≡ 2 * groups_of p + length (checks p)
+wanted_is read_set p calls as_read all = sum (length (prepares_in p.id calls)) (groups_of p) (checks_by read_set p.id calls) (length (checks p)) (groups_put p calls all) (checks_are p calls all read_set as_read)
   where
-    puts : length (prepares_in p.id calls) ≡ length p.writes
-    puts = sym (length-map (prepares_in p.id calls) (λ (m : StoreCall). m.request)) ∙ ap length all ∙ length-map p.writes (prepare_of p.id p.now)
+    sum : (a g x c : ℕ) → a ≡ g → x ≡ c → 2 * a + x ≡ 2 * g + c
+    sum a g x c e f = omega (arith, e, f)
 
-    gets : count_by (is_checked_get (prepares_in p.id calls)) read_set ≡ length (filter (λ r. not (is_written p.writes r.key)) p.reads)
-    gets = sym (length-filter (is_checked_get (prepares_in p.id calls)) read_set) ∙ gets_are (prepares_in p.id calls) read_set ∙ ap (λ ks. length (filter (is_unput (prepares_in p.id calls)) ks)) as_read.reads ∙ unput_is p calls all p.reads
-
-    sum : (a w g h s t c : ℕ) → a ≡ w → g ≡ h → s ≡ t → c ≡ h + t → 2 * a + (g + s) ≡ 2 * w + c
-    sum a w g h s t c e f k l = omega (arith, e, f, k, l)
+-- at most it is one call for each group, one for each write, and one for each check
+allowed_is : (read_set : List ReadItem) (p : Work) (calls : List StoreCall) → ReadItemsAre read_set p.reads p.scans → AllPut p calls → allowed_by read_set p.id calls ≡ groups_of p + (length p.writes + length (checks p))
+allowed_is read_set p calls as_read all =
+    sum (length (prepares_in p.id calls)) (groups_of p) (puts_prepared p.id calls) (length p.writes) (checks_by read_set p.id calls) (length (checks p)) (groups_put p calls all) (writes_put p calls all) (checks_are p calls all read_set as_read)
+  where
+    sum : (a g u w x c : ℕ) → a ≡ g → u ≡ w → x ≡ c → a + (u + x) ≡ g + (w + c)
+    sum a g u w x c e f k = omega (arith, e, f, k)
 
 ---- what prepares
 
@@ -137,6 +158,23 @@ forward_unprepared id r now c = ap (λ t. t || is_version id state.Deleted (forw
 
     one : (s : State) → has_value (Some (value.Int (state_number state.Committed))) (value.Int (state_number s)) ≡ false → is_version id s (forward_record r now) ≡ false
     one s n = ap (λ o. has_value (column (forward_record r now).columns tx_id) (value.Text (id_text id.0)) && has_value o (value.Int (state_number s))) (forward-state r.columns now) ∙ ap (λ t. has_value (column (forward_record r now).columns tx_id) (value.Text (id_text id.0)) && t) n ∙ none (has_value (column (forward_record r now).columns tx_id) (value.Text (id_text id.0)))
+
+forwards_unprepared : (id : TxId) (now : ℤ) (g : List Write) → prepares id (forwards_of id now g) ≡ false
+forwards_unprepared id now [] = refl
+forwards_unprepared id now (w ∷ []) = forward_unprepared id (prepared_record w id now) now (work.is_as_prepared id w)
+forwards_unprepared id now (v ∷ w ∷ ws) = none (v ∷ w ∷ ws)
+  where
+    none : (xs : List Write) → any_of (is_prepared_record id) (map (λ (x : Record × Condition). x.0) (map (λ (u : Put). (u.rec, u.condition)) (map (forward_of id now) xs))) ≡ false
+    none [] = refl
+    none (x ∷ []) = forward_unprepared id (prepared_record x id now) now (work.is_as_prepared id x)
+    none (x ∷ y ∷ ys) =
+        ap (λ b. b || any_of (is_prepared_record id) (map (λ (z : Record × Condition). z.0) (map (λ (u : Put). (u.rec, u.condition)) (map (forward_of id now) (y ∷ ys))))) (forward_unprepared id (prepared_record x id now) now (work.is_as_prepared id x))
+        ∙ none (y ∷ ys)
+
+-- a group is prepared
+pub group_prepares : (id : TxId) (now : ℤ) (g : List Write) → 0 < length g → prepares id (prepares_of id now g) ≡ true
+group_prepares id now [] some = absurd (omega (arith, some))
+group_prepares id now (w ∷ ws) some = ap (any_of (is_prepared_record id)) (records_of_group id now (w ∷ ws)) ∙ any_at (is_prepared_record id) (map (λ (x : Write). prepared_record x id now) (w ∷ ws)) 0 (prepared_record w id now) refl (prepared_is id now w)
 
 checks_unprepared : (p : Work) → AllByRecursion (λ c. prepares p.id c.request ≡ false) (checks p)
 checks_unprepared p =
@@ -179,8 +217,8 @@ module _ (read_set : List ReadItem) (p : Work) (as_read : ReadItemsAre read_set 
   all_same : AllPut p calls → prepares p.id m.request ≡ false → AllPut p more
   all_same all f = ap (map (λ (x : StoreCall). x.request)) (put_same f) ∙ all
 
-  wanted_same : prepares p.id m.request ≡ false → wanted_by read_set p.id more ≡ wanted_by read_set p.id calls
-  wanted_same f = ap (λ (ms : List StoreCall). 2 * length ms + (count_by (is_checked_get ms) read_set + count_by is_scan read_set)) (put_same f)
+  allowed_same : prepares p.id m.request ≡ false → allowed_by read_set p.id more ≡ allowed_by read_set p.id calls
+  allowed_same f = ap (λ (ms : List StoreCall). length ms + (sum_by (λ (x : StoreCall). length (records_put x.request)) ms + (count_by (is_checked_get ms) read_set + count_by is_scan read_set))) (put_same f)
 
   -- a prepare
   put_one : prepares p.id m.request ≡ true → prepares_in p.id more ≡ prepares_in p.id calls ++ m ∷ []
@@ -196,13 +234,13 @@ module _ (read_set : List ReadItem) (p : Work) (as_read : ReadItemsAre read_set 
 
   ---- where it stops, and where it goes on
 
-  stopping_at : (a : Outcome) (n : ℕ) → (a ≢ outcome.Committed) → length more + (1 + n) ≤ wanted_by read_set p.id more + 4 → CommitCounted read_set p more (Stopping a n)
+  stopping_at : (a : Outcome) (n : ℕ) → (a ≢ outcome.Committed) → length more + (1 + n) ≤ allowed_by read_set p.id more + 4 → CommitCounted read_set p more (Stopping a n)
   stopping_at a n other l = (other, l)
 
-  over_at : (a : Outcome) → (a ≢ outcome.Committed) → length more ≤ wanted_by read_set p.id more + 4 → CommitCounted read_set p more (Over a)
+  over_at : (a : Outcome) → (a ≢ outcome.Committed) → length more ≤ allowed_by read_set p.id more + 4 → CommitCounted read_set p more (Over a)
   over_at a other l = (l, λ e. absurd (other e))
 
-  back_at : (a : Outcome) (n i : ℕ) → (a ≢ outcome.Committed) → i ≤ n → length more + n ≤ wanted_by read_set p.id more + 4 + i → CommitCounted read_set p more (back a n i)
+  back_at : (a : Outcome) (n i : ℕ) → (a ≢ outcome.Committed) → i ≤ n → length more + n ≤ allowed_by read_set p.id more + 4 + i → CommitCounted read_set p more (back a n i)
   back_at a n i other within l = by (nat_lt i n) refl
     where
       below : (i n : ℕ) → nat_lt i n ≡ true → i < n
@@ -216,10 +254,10 @@ module _ (read_set : List ReadItem) (p : Work) (as_read : ReadItemsAre read_set 
 
       by : (b : Bool) → nat_lt i n ≡ b → CommitCounted read_set p more (if b then Back a n i else Over a)
       by true e = (below i n e, other, l)
-      by false e = over_at a other (past i n (length more) (wanted_by read_set p.id more + 4) e within l)
+      by false e = over_at a other (past i n (length more) (allowed_by read_set p.id more + 4) e within l)
 
-  forward_at : (i : ℕ) → AllPut p more → i ≤ length p.writes → length more ≤ later_by p 4 + i → (NoneFaulted more → length more ≡ later_by p 1 + i) → CommitCounted read_set p more (forward p i)
-  forward_at i all within l exact = by (nat_lt i (length p.writes)) refl
+  forward_at : (i : ℕ) → AllPut p more → i ≤ groups_of p → length more ≤ later_by p 4 + i → (NoneFaulted more → length more ≡ later_by p 1 + i) → CommitCounted read_set p more (forward p i)
+  forward_at i all within l exact = by (nat_lt i (groups_of p)) refl
     where
       below : (i n : ℕ) → nat_lt i n ≡ true → i < n
       below i n e = grind (arith, nat_tests)
@@ -227,20 +265,21 @@ module _ (read_set : List ReadItem) (p : Work) (as_read : ReadItemsAre read_set 
       at_end : (i n : ℕ) → nat_lt i n ≡ false → i ≤ n → i ≡ n
       at_end i n e l = grind (arith, nat_tests)
 
-      most : (i w c a x : ℕ) → i ≡ w → x ≡ 2 * w + c → a ≤ w + c + 4 + i → a ≤ x + 4
-      most i w c a x e f g = omega (arith, e, f, g)
+      most : (i g w c a x : ℕ) → i ≡ g → g ≤ w → x ≡ g + (w + c) → a ≤ g + c + 4 + i → a ≤ x + 4
+      most i g w c a x e few f k = omega (arith, e, few, f, k)
 
-      just : (i w c a x : ℕ) → i ≡ w → x ≡ 2 * w + c → a ≡ w + c + 1 + i → a ≡ x + 1
-      just i w c a x e f g = omega (arith, e, f, g)
+      just : (i g c a x : ℕ) → i ≡ g → x ≡ 2 * g + c → a ≡ g + c + 1 + i → a ≡ x + 1
+      just i g c a x e f k = omega (arith, e, f, k)
 
-      by : (b : Bool) → nat_lt i (length p.writes) ≡ b → CommitCounted read_set p more (if b then Forward i else Over outcome.Committed)
-      by true e = (all, below i (length p.writes) e, l, exact)
+      by : (b : Bool) → nat_lt i (groups_of p) ≡ b → CommitCounted read_set p more (if b then Forward i else Over outcome.Committed)
+      by true e = (all, below i (groups_of p) e, l, exact)
       by false e =
-          let i_is : i ≡ length p.writes = at_end i (length p.writes) e within in
-          let x_is : wanted_by read_set p.id more ≡ 2 * length p.writes + length (checks p) = wanted_is read_set p more as_read all in
-          (most i (length p.writes) (length (checks p)) (length more) (wanted_by read_set p.id more) i_is x_is l, λ k n. just i (length p.writes) (length (checks p)) (length more) (wanted_by read_set p.id more) i_is x_is (exact n))
+          let i_is : i ≡ groups_of p = at_end i (groups_of p) e within in (
+            most i (groups_of p) (length p.writes) (length (checks p)) (length more) (allowed_by read_set p.id more) i_is (few_groups p) (allowed_is read_set p more as_read all) l,
+            λ k n. just i (groups_of p) (length (checks p)) (length more) (wanted_by read_set p.id more) i_is (wanted_is read_set p more as_read all) (exact n),
+          )
 
-  checking_at : (i : ℕ) → AllPut p more → i ≤ length (checks p) → length more ≡ length p.writes + i → CommitCounted read_set p more (checking p i)
+  checking_at : (i : ℕ) → AllPut p more → i ≤ length (checks p) → length more ≡ groups_of p + i → CommitCounted read_set p more (checking p i)
   checking_at i all within e = by (nat_lt i (length (checks p))) refl
     where
       below : (i n : ℕ) → nat_lt i n ≡ true → i < n
@@ -254,11 +293,11 @@ module _ (read_set : List ReadItem) (p : Work) (as_read : ReadItemsAre read_set 
 
       by : (b : Bool) → nat_lt i (length (checks p)) ≡ b → CommitCounted read_set p more (if b then Checking i else Deciding phase.Put)
       by true k = (all, below i (length (checks p)) k, e)
-      by false k = (all, plus (length more) (length p.writes) i (length (checks p)) e (at_end i (length (checks p)) k within), λ n. refl)
+      by false k = (all, plus (length more) (groups_of p) i (length (checks p)) e (at_end i (length (checks p)) k within), λ n. refl)
 
   -- so many calls are within what it is to make at most
-  all_fit : (n : ℕ) → AllPut p more → n ≤ 2 * length p.writes + length (checks p) + 4 → n ≤ wanted_by read_set p.id more + 4
-  all_fit n all l = by (wanted_by read_set p.id more) (2 * length p.writes + length (checks p)) (wanted_is read_set p more as_read all) l
+  all_fit : (n : ℕ) → AllPut p more → n ≤ groups_of p + (length p.writes + length (checks p)) + 4 → n ≤ allowed_by read_set p.id more + 4
+  all_fit n all l = by (allowed_by read_set p.id more) (groups_of p + (length p.writes + length (checks p))) (allowed_is read_set p more as_read all) l
     where
       by : (x y : ℕ) → x ≡ y → n ≤ y + 4 → n ≤ x + 4
       by x y e k = omega (arith, e, k)
@@ -267,7 +306,9 @@ module _ (read_set : List ReadItem) (p : Work) (as_read : ReadItemsAre read_set 
 
   module _ (i : ℕ) (asked : slice_get (work.prepares p) i ≡ Some m.request) (long : length calls ≡ i) (puts : length (prepares_in p.id calls) ≡ i) (put : HasPut p i calls) where
     is_put : prepares p.id m.request ≡ true
-    is_put = let r = mapped_at (prepare_of p.id p.now) p.writes i m.request asked in sym (ap (prepares p.id) r.2) ∙ prepared_is p.id p.now r.0
+    is_put =
+        let r = mapped_at (prepares_of p.id p.now) (grouped p.writes) i m.request asked in
+        sym (ap (prepares p.id) r.2) ∙ group_prepares p.id p.now r.0 (each_at IsGroup (grouped p.writes) i r.0 (each_group p.writes) r.1).some
 
     has_put : HasPut p (i + 1) more
     has_put = ap (map (λ (x : StoreCall). x.request)) (put_one is_put) ∙ map_more (λ (x : StoreCall). x.request) (prepares_in p.id calls) (m ∷ []) ∙ ap (λ qs. qs ++ m.request ∷ []) put ∙ sym (take_more (work.prepares p) i m.request asked)
@@ -278,28 +319,41 @@ module _ (read_set : List ReadItem) (p : Work) (as_read : ReadItemsAre read_set 
     puts_now : length (prepares_in p.id more) ≡ i + 1
     puts_now = ap length (put_one is_put) ∙ length-append (prepares_in p.id calls) (m ∷ []) ∙ ap (λ n. n + 1) puts
 
-    stops : (a : Outcome) (n : ℕ) → (a ≢ outcome.Committed) → n ≤ i + 1 → CommitCounted read_set p more (Stopping a n)
-    stops a n other l = (other, by (length more) (length (prepares_in p.id more)) (count_by (is_checked_get (prepares_in p.id more)) read_set + count_by is_scan read_set) long_now puts_now)
+    stops : (a : Outcome) (n : ℕ) → (a ≢ outcome.Committed) → n ≤ writes_before p (i + 1) → CommitCounted read_set p more (Stopping a n)
+    stops a n other l = (other, by (length more) (length (prepares_in p.id more)) (puts_prepared p.id more) (checks_by read_set p.id more) (writes_before p (i + 1)) long_now puts_now (puts_first p (i + 1) more has_put) l)
       where
-        by : (x y z : ℕ) → x ≡ i + 1 → y ≡ i + 1 → x + (1 + n) ≤ 2 * y + z + 4
-        by x y z e f = omega (arith, e, f, l)
+        by : (x y u z k : ℕ) → x ≡ i + 1 → y ≡ i + 1 → u ≡ k → n ≤ k → x + (1 + n) ≤ y + (u + z) + 4
+        by x y u z k e f g h = omega (arith, e, f, g, h)
 
-    touched : (r : Reply) → touched_after i r ≤ i + 1
-    touched reply.Applied = omega arith
-    touched (reply.NotMet found) = omega arith
-    touched (reply.Found found) = omega arith
-    touched (reply.Rows rows) = omega arith
-    touched reply.Fault = omega arith
-    touched reply.NoMemory = omega arith
+    i_below : i < groups_of p
+    i_below = subst (λ n. i < n) (length-map (grouped p.writes) (prepares_of p.id p.now)) (slice_get_within (work.prepares p) i m.request asked)
 
-    i_below : i < length p.writes
-    i_below = let l : i < length (work.prepares p) = slice_get_within (work.prepares p) i m.request asked in let e : length (work.prepares p) ≡ length p.writes = length-map p.writes (prepare_of p.id p.now) in by (length (work.prepares p)) (length p.writes) e l
+    touched : (r : Reply) → touched_after (slice_get (work.prepares p) i) (writes_before p i) r ≤ writes_before p (i + 1)
+    touched r = by r
       where
-        by : (x y : ℕ) → x ≡ y → i < x → i < y
-        by x y e k = omega (arith, e, k)
+        all_of : writes_before p i + puts_of (slice_get (work.prepares p) i) ≤ writes_before p (i + 1)
+        all_of = same (writes_before p i + puts_of (slice_get (work.prepares p) i)) (writes_before p (i + 1)) (writes_more p i i_below)
+          where
+            same : (a b : ℕ) → a ≡ b → a ≤ b
+            same a b e = omega (arith, e)
 
-    all_put : nat_lt (i + 1) (length p.writes) ≡ false → AllPut p more
-    all_put f = has_put ∙ take_all (i + 1) (work.prepares p) (by (length (work.prepares p)) (length p.writes) (length-map p.writes (prepare_of p.id p.now)) (least (length p.writes) f))
+        none_of : writes_before p i ≤ writes_before p (i + 1)
+        none_of = less (writes_before p i) (puts_of (slice_get (work.prepares p) i)) (writes_before p (i + 1)) (writes_more p i i_below)
+          where
+            less : (a b c : ℕ) → a + b ≡ c → a ≤ c
+            less a b c e = omega (arith, e)
+
+        by : (r : Reply) → touched_after (slice_get (work.prepares p) i) (writes_before p i) r ≤ writes_before p (i + 1)
+        by reply.Applied = all_of
+        by (reply.NotMet found) = none_of
+        by (reply.Found found) = none_of
+        by (reply.Rows rows) = none_of
+        by (reply.NotAll place there) = none_of
+        by reply.Fault = all_of
+        by reply.NoMemory = none_of
+
+    all_put : nat_lt (i + 1) (groups_of p) ≡ false → AllPut p more
+    all_put f = has_put ∙ take_all (i + 1) (work.prepares p) (by (length (work.prepares p)) (groups_of p) (length-map (grouped p.writes) (prepares_of p.id p.now)) (least (groups_of p) f))
       where
         least : (n : ℕ) → nat_lt (i + 1) n ≡ false → n ≤ i + 1
         least n e = grind (arith, nat_tests)
@@ -307,8 +361,8 @@ module _ (read_set : List ReadItem) (p : Work) (as_read : ReadItemsAre read_set 
         by : (x y : ℕ) → x ≡ y → y ≤ i + 1 → x ≤ i + 1
         by x y e k = omega (arith, e, k)
 
-    all_long : nat_lt (i + 1) (length p.writes) ≡ false → length more ≡ length p.writes + 0
-    all_long f = by (length more) (length p.writes) long_now (least (length p.writes) f) i_below
+    all_long : nat_lt (i + 1) (groups_of p) ≡ false → length more ≡ groups_of p + 0
+    all_long f = by (length more) (groups_of p) long_now (least (groups_of p) f) i_below
       where
         least : (n : ℕ) → nat_lt (i + 1) n ≡ false → n ≤ i + 1
         least n e = grind (arith, nat_tests)
@@ -316,43 +370,49 @@ module _ (read_set : List ReadItem) (p : Work) (as_read : ReadItemsAre read_set 
         by : (x n : ℕ) → x ≡ i + 1 → n ≤ i + 1 → i < n → x ≡ n + 0
         by x n e k l = omega (arith, e, k, l)
 
-    refused_counted : (n : ℕ) (o : Option Request) (found : Option Record) → n ≤ i + 1 → CommitCounted read_set p more (after_prepare p i n (refused o found))
-    refused_counted n None found l = stops outcome.NoMemory n (λ e. cc) l
-    refused_counted n (Some (ask.PutIf rec c)) found l = stops (outcome.Conflict rec.key found) n (λ e. cc) l
-    refused_counted n (Some (ask.Get key)) found l = stops outcome.NoMemory n (λ e. cc) l
-    refused_counted n (Some (ask.Scan span)) found l = stops outcome.NoMemory n (λ e. cc) l
-    refused_counted n (Some (ask.DeleteIf key c)) found l = stops outcome.NoMemory n (λ e. cc) l
+    refused_put : (n : ℕ) (o : Option Put) (found : Option Record) → n ≤ writes_before p (i + 1) → CommitCounted read_set p more (after_prepare p i n (option_map_or (λ (u : Put). step_prepare.Conflict u.rec.key found) o step_prepare.NoMemory))
+    refused_put n None found l = stops outcome.NoMemory n (λ e. cc) l
+    refused_put n (Some u) found l = stops (outcome.Conflict u.rec.key found) n (λ e. cc) l
 
-    prepared_counted : (b : Bool) (n : ℕ) (o : Option Request) (r : Reply) → nat_lt (i + 1) (length p.writes) ≡ b → n ≤ i + 1 → CommitCounted read_set p more (after_prepare p i n (prepare_step b o r))
+    refused_counted : (n : ℕ) (o : Option Request) (k : ℕ) (found : Option Record) → n ≤ writes_before p (i + 1) → CommitCounted read_set p more (after_prepare p i n (refused o k found))
+    refused_counted n None k found l = stops outcome.NoMemory n (λ e. cc) l
+    refused_counted n (Some (ask.PutIf rec c)) k found l = stops (outcome.Conflict rec.key found) n (λ e. cc) l
+    refused_counted n (Some (ask.Get key)) k found l = stops outcome.NoMemory n (λ e. cc) l
+    refused_counted n (Some (ask.Scan span)) k found l = stops outcome.NoMemory n (λ e. cc) l
+    refused_counted n (Some (ask.DeleteIf key c)) k found l = stops outcome.NoMemory n (λ e. cc) l
+    refused_counted n (Some (ask.PutAll batch)) k found l = refused_put n (put_at batch k) found l
+
+    prepared_counted : (b : Bool) (n : ℕ) (o : Option Request) (r : Reply) → nat_lt (i + 1) (groups_of p) ≡ b → n ≤ writes_before p (i + 1) → CommitCounted read_set p more (after_prepare p i n (prepare_step b o r))
     prepared_counted true n o reply.Applied e l = (long_now, puts_now, has_put)
     prepared_counted false n o reply.Applied e l = checking_at 0 (all_put e) (omega arith) (all_long e)
-    prepared_counted b n o (reply.NotMet found) e l = refused_counted n o found l
+    prepared_counted b n o (reply.NotMet found) e l = refused_counted n o 1 found l
     prepared_counted b n o reply.Fault e l = stops outcome.Faulted n (λ z. cc) l
     prepared_counted b n o (reply.Found found) e l = stops outcome.NoMemory n (λ z. cc) l
     prepared_counted b n o (reply.Rows rows) e l = stops outcome.NoMemory n (λ z. cc) l
+    prepared_counted b n o (reply.NotAll place there) e l = refused_counted n o place there l
     prepared_counted b n o reply.NoMemory e l = stops outcome.NoMemory n (λ z. cc) l
 
   ---- a check
 
-  module _ (i : ℕ) (all : AllPut p more) (within : i < length (checks p)) (long : length calls ≡ length p.writes + i) where
-    long_then : length more ≡ length p.writes + (i + 1)
-    long_then = by (length calls) (length more) (length p.writes) (calls_more calls m) long
+  module _ (i : ℕ) (all : AllPut p more) (within : i < length (checks p)) (long : length calls ≡ groups_of p + i) where
+    long_then : length more ≡ groups_of p + (i + 1)
+    long_then = by (length calls) (length more) (groups_of p) (calls_more calls m) long
       where
         by : (x y w : ℕ) → y ≡ x + 1 → x ≡ w + i → y ≡ w + (i + 1)
         by x y w e f = omega (arith, e, f)
 
     stops_check : (a : Outcome) → (a ≢ outcome.Committed) → CommitCounted read_set p more (Stopping a (length p.writes))
-    stops_check a other = (other, all_fit (length more + (1 + length p.writes)) all (by (length more) (length p.writes) (length (checks p)) long_then within))
+    stops_check a other = (other, all_fit (length more + (1 + length p.writes)) all (by (length more) (groups_of p) (length p.writes) (length (checks p)) long_then within))
       where
-        by : (x w c : ℕ) → x ≡ w + (i + 1) → i < c → x + (1 + w) ≤ 2 * w + c + 4
-        by x w c e l = omega (arith, e, l)
+        by : (x g w c : ℕ) → x ≡ g + (i + 1) → i < c → x + (1 + w) ≤ g + (w + c) + 4
+        by x g w c e l = omega (arith, e, l)
 
     judged_counted : (b : Bool) (o : Option (Key × Option Record)) → nat_lt (i + 1) (length (checks p)) ≡ b → CommitCounted read_set p more (after_check p i (judged b o))
     judged_counted true None e = (all, below (length (checks p)) e, long_then)
       where
         below : (n : ℕ) → nat_lt (i + 1) n ≡ true → i + 1 < n
         below n k = grind (arith, nat_tests)
-    judged_counted false None e = (all, by (length more) (length p.writes) (length (checks p)) long_then (least (length (checks p)) e) within, λ n. refl)
+    judged_counted false None e = (all, by (length more) (groups_of p) (length (checks p)) long_then (least (length (checks p)) e) within, λ n. refl)
       where
         least : (n : ℕ) → nat_lt (i + 1) n ≡ false → n ≤ i + 1
         least n k = grind (arith, nat_tests)
@@ -368,22 +428,24 @@ module _ (read_set : List ReadItem) (p : Work) (as_read : ReadItemsAre read_set 
     checked_counted b None (reply.NotMet found) e = stops_check outcome.NoMemory (λ z. cc)
     checked_counted b None (reply.Found found) e = stops_check outcome.NoMemory (λ z. cc)
     checked_counted b None (reply.Rows rows) e = stops_check outcome.NoMemory (λ z. cc)
+    checked_counted b None (reply.NotAll place there) e = stops_check outcome.NoMemory (λ z. cc)
     checked_counted b (Some c) reply.Applied e = judged_counted b (difference_in c reply.Applied) e
     checked_counted b (Some c) (reply.NotMet found) e = judged_counted b (difference_in c (reply.NotMet found)) e
     checked_counted b (Some c) (reply.Found found) e = judged_counted b (difference_in c (reply.Found found)) e
     checked_counted b (Some c) (reply.Rows rows) e = judged_counted b (difference_in c (reply.Rows rows)) e
+    checked_counted b (Some c) (reply.NotAll place there) e = judged_counted b (difference_in c (reply.NotAll place there)) e
 
   ---- the decision
 
   module _ (k : ℕ) (few : k ≤ 3) (all : AllPut p more) (long : length calls ≡ later_by p k) (first : NoneFaulted calls → k ≡ 0) where
     then_long : length more ≡ later_by p (k + 1)
-    then_long = by (length calls) (length more) (length p.writes + length (checks p)) (calls_more calls m) long
+    then_long = by (length calls) (length more) (groups_of p + length (checks p)) (calls_more calls m) long
       where
         by : (x y w : ℕ) → y ≡ x + 1 → x ≡ w + k → y ≡ w + (k + 1)
         by x y w e f = omega (arith, e, f)
 
     won : CommitCounted read_set p more (forward p 0)
-    won = forward_at 0 all (omega arith) (most (length more) (length p.writes + length (checks p)) then_long) (λ n. just (length more) (length p.writes + length (checks p)) then_long (first (faulted_front calls n)))
+    won = forward_at 0 all (omega arith) (most (length more) (groups_of p + length (checks p)) then_long) (λ n. just (length more) (groups_of p + length (checks p)) then_long (first (faulted_front calls n)))
       where
         most : (x w : ℕ) → x ≡ w + (k + 1) → x ≤ w + 4 + 0
         most x w e = omega (arith, e, few)
@@ -392,19 +454,19 @@ module _ (read_set : List ReadItem) (p : Work) (as_read : ReadItemsAre read_set 
         just x w e f = omega (arith, e, f)
 
     lost : (a : Outcome) → (a ≢ outcome.Committed) → CommitCounted read_set p more (back a (length p.writes) 0)
-    lost a other = back_at a (length p.writes) 0 other (omega arith) (plain (length more + length p.writes) (wanted_by read_set p.id more + 4) (all_fit (length more + length p.writes) all (by (length more) (length p.writes) (length (checks p)) then_long)))
+    lost a other = back_at a (length p.writes) 0 other (omega arith) (plain (length more + length p.writes) (allowed_by read_set p.id more + 4) (all_fit (length more + length p.writes) all (by (length more) (groups_of p) (length p.writes) (length (checks p)) then_long)))
       where
-        by : (x w c : ℕ) → x ≡ w + c + (k + 1) → x + w ≤ 2 * w + c + 4
-        by x w c e = omega (arith, e, few)
+        by : (x g w c : ℕ) → x ≡ g + c + (k + 1) → x + w ≤ g + (w + c) + 4
+        by x g w c e = omega (arith, e, few)
 
         plain : (x y : ℕ) → x ≤ y → x ≤ y + 0
         plain x y l = omega (arith, l)
 
     over : (a : Outcome) → (a ≢ outcome.Committed) → CommitCounted read_set p more (Over a)
-    over a other = over_at a other (all_fit (length more) all (by (length more) (length p.writes) (length (checks p)) then_long))
+    over a other = over_at a other (all_fit (length more) all (by (length more) (groups_of p) (length p.writes) (length (checks p)) then_long))
       where
-        by : (x w c : ℕ) → x ≡ w + c + (k + 1) → x ≤ 2 * w + c + 4
-        by x w c e = omega (arith, e, few)
+        by : (x g w c : ℕ) → x ≡ g + c + (k + 1) → x ≤ g + (w + c) + 4
+        by x g w c e = omega (arith, e, few)
 
     -- by a row, which says COMMITTED, or ABORTED, for which that is what it comes to
     row_counted : (aborted : DecideStep) (o : Result Decided (List ℕ)) → CommitCounted read_set p more (after_decide p phase.Ended aborted) → CommitCounted read_set p more (after_decide p phase.Ended (step_of_row p.id aborted o))
@@ -423,10 +485,10 @@ module _ (read_set : List ReadItem) (p : Work) (as_read : ReadItemsAre read_set 
 
   -- out of memory at the first call of the decision
   starved_counted : AllPut p more → length calls ≡ later_by p 0 → CommitCounted read_set p more (Stopping outcome.NoMemory (length p.writes))
-  starved_counted all long = ((λ e. cc), all_fit (length more + (1 + length p.writes)) all (by (length calls) (length more) (length p.writes) (length (checks p)) (calls_more calls m) long))
+  starved_counted all long = ((λ e. cc), all_fit (length more + (1 + length p.writes)) all (by (length calls) (length more) (groups_of p) (length p.writes) (length (checks p)) (calls_more calls m) long))
     where
-      by : (x y w c : ℕ) → y ≡ x + 1 → x ≡ w + c + 0 → y + (1 + w) ≤ 2 * w + c + 4
-      by x y w c e f = omega (arith, e, f)
+      by : (x y g w c : ℕ) → y ≡ x + 1 → x ≡ g + c + 0 → y + (1 + w) ≤ g + (w + c) + 4
+      by x y g w c e f = omega (arith, e, f)
 
   few_decides : (d : DecidePhase) → decides d ≤ 3
   few_decides phase.Put = omega arith
@@ -455,7 +517,7 @@ module _ (read_set : List ReadItem) (p : Work) (as_read : ReadItemsAre read_set 
 
   ---- rolls
 
-  ended_abort : (a : Outcome) (n : ℕ) (r : Reply) → (a ≢ outcome.Committed) → length more + n ≤ wanted_by read_set p.id more + 4 → CommitCounted read_set p more (after_abort a n r)
+  ended_abort : (a : Outcome) (n : ℕ) (r : Reply) → (a ≢ outcome.Committed) → length more + n ≤ allowed_by read_set p.id more + 4 → CommitCounted read_set p more (after_abort a n r)
   ended_abort a n r other l = by r
     where
       fewer : (x w : ℕ) → x + n ≤ w → x ≤ w
@@ -465,29 +527,29 @@ module _ (read_set : List ReadItem) (p : Work) (as_read : ReadItemsAre read_set 
       plain x w k = omega (arith, k)
 
       over_now : CommitCounted read_set p more (Over a)
-      over_now = over_at a other (fewer (length more) (wanted_by read_set p.id more + 4) l)
+      over_now = over_at a other (fewer (length more) (allowed_by read_set p.id more + 4) l)
 
       back_now : CommitCounted read_set p more (back a n 0)
-      back_now = back_at a n 0 other (omega arith) (plain (length more) (wanted_by read_set p.id more + 4) l)
+      back_now = back_at a n 0 other (omega arith) (plain (length more) (allowed_by read_set p.id more + 4) l)
 
       by : (z : Reply) → CommitCounted read_set p more (after_abort a n z)
       by reply.Applied = back_now
       by (reply.NotMet found) = back_now
       by (reply.Found found) = over_now
       by (reply.Rows rows) = over_now
+      by (reply.NotAll place there) = over_now
       by reply.Fault = over_now
       by reply.NoMemory = over_now
 
   back_unprepared : (i : ℕ) → slice_get (backs p) i ≡ Some m.request → prepares p.id m.request ≡ false
   back_unprepared i e =
-      let r = mapped_at (back_of p.id) p.writes i m.request e in
-      let is : IsWrite r.0 = each_at IsWrite p.writes i r.0 valid r.1 in
+      let r = mapped_at (back_of p.id) (in_groups p.writes) i m.request e in
+      let is : IsWrite r.0 = each_at IsWrite (in_groups p.writes) i r.0 (all_in_groups IsWrite p.writes valid) r.1 in
       sym (ap (prepares p.id) r.2) ∙ undo_unprepared p.id r.0.key r.0.base (work.is_as_prepared p.id r.0) is.base
 
   forward_unput : (i : ℕ) → slice_get (forwards p) i ≡ Some m.request → prepares p.id m.request ≡ false
   forward_unput i e =
-      let r = mapped_at (forward_of p.id p.now) p.writes i m.request e in
-      sym (ap (prepares p.id) r.2) ∙ forward_unprepared p.id (prepared_record r.0 p.id p.now) p.now (work.is_as_prepared p.id r.0)
+      let r = mapped_at (forwards_of p.id p.now) (grouped p.writes) i m.request e in sym (ap (prepares p.id) r.2) ∙ forwards_unprepared p.id p.now r.0
 
   check_unput : (i : ℕ) → option_map (λ c. c.request) (slice_get (checks p) i) ≡ Some m.request → prepares p.id m.request ≡ false
   check_unput i e = by (slice_get (checks p) i) refl e
@@ -497,10 +559,10 @@ module _ (read_set : List ReadItem) (p : Work) (as_read : ReadItemsAre read_set 
       by (Some c) k h = sym (ap (prepares p.id) (some_is c.request m.request h)) ∙ each_at (λ (c : Check). prepares p.id c.request ≡ false) (checks p) i c (checks_unprepared p) k
 
   pub commit_more : (s : Stage) → CommitCounted read_set p calls s → pending p s ≡ Some m.request → CommitCounted read_set p more (step p s m.reply)
-  commit_more (Preparing i) h e = prepared_counted i e h.0 h.1 h.2 (nat_lt (i + 1) (length p.writes)) (touched_after i m.reply) (slice_get (work.prepares p) i) m.reply refl (touched i e h.0 h.1 h.2 m.reply)
+  commit_more (Preparing i) h e = prepared_counted i e h.0 h.1 h.2 (nat_lt (i + 1) (groups_of p)) (touched_after (slice_get (work.prepares p) i) (writes_before p i) m.reply) (slice_get (work.prepares p) i) m.reply refl (touched i e h.0 h.1 h.2 m.reply)
   commit_more (Checking i) h e = checked_counted i (all_same h.0 (check_unput i e)) h.1 h.2 (nat_lt (i + 1) (length (checks p))) (slice_get (checks p) i) m.reply refl
   commit_more (Deciding d) h e = decided_counted d (all_same h.0 (decide_unprepared p.id p.now d m.request e)) h.1 h.2
-  commit_more (Forward i) h e = forward_at (i + 1) (all_same h.0 (forward_unput i e)) (up i (length p.writes) h.1) (most (length calls) (length more) (later_by p 4) (calls_more calls m) h.2) (λ n. just (length calls) (length more) (later_by p 1) (calls_more calls m) (h.3 (faulted_front calls n)))
+  commit_more (Forward i) h e = forward_at (i + 1) (all_same h.0 (forward_unput i e)) (up i (groups_of p) h.1) (most (length calls) (length more) (later_by p 4) (calls_more calls m) h.2) (λ n. just (length calls) (length more) (later_by p 1) (calls_more calls m) (h.3 (faulted_front calls n)))
     where
       up : (i w : ℕ) → i < w → i + 1 ≤ w
       up i w l = omega (arith, l)
@@ -511,14 +573,14 @@ module _ (read_set : List ReadItem) (p : Work) (as_read : ReadItemsAre read_set 
       just : (x y z : ℕ) → y ≡ x + 1 → x ≡ z + i → y ≡ z + (i + 1)
       just x y z k l = omega (arith, k, l)
   commit_more (Stopping a n) h e =
-      let same : wanted_by read_set p.id more ≡ wanted_by read_set p.id calls = wanted_same (sym (ap (prepares p.id) (some_is (abort_of p.id p.now) m.request e)) ∙ row_unprepared p.id p.now) in
-      ended_abort a n m.reply h.0 (by (length calls) (length more) (wanted_by read_set p.id calls) (wanted_by read_set p.id more) (calls_more calls m) same h.1)
+      let same : allowed_by read_set p.id more ≡ allowed_by read_set p.id calls = allowed_same (sym (ap (prepares p.id) (some_is (abort_of p.id p.now) m.request e)) ∙ row_unprepared p.id p.now) in
+      ended_abort a n m.reply h.0 (by (length calls) (length more) (allowed_by read_set p.id calls) (allowed_by read_set p.id more) (calls_more calls m) same h.1)
     where
       by : (x y z w : ℕ) → y ≡ x + 1 → w ≡ z → x + (1 + n) ≤ z + 4 → y + n ≤ w + 4
       by x y z w k l g = omega (arith, k, l, g)
   commit_more (Back a n i) h e =
-      let same : wanted_by read_set p.id more ≡ wanted_by read_set p.id calls = wanted_same (back_unprepared i e) in
-      back_at a n (i + 1) h.1 (up i n h.0) (by (length calls) (length more) (wanted_by read_set p.id calls) (wanted_by read_set p.id more) (calls_more calls m) same h.2)
+      let same : allowed_by read_set p.id more ≡ allowed_by read_set p.id calls = allowed_same (back_unprepared i e) in
+      back_at a n (i + 1) h.1 (up i n h.0) (by (length calls) (length more) (allowed_by read_set p.id calls) (allowed_by read_set p.id more) (calls_more calls m) same h.2)
     where
       up : (i w : ℕ) → i < w → i + 1 ≤ w
       up i w l = omega (arith, l)
@@ -557,7 +619,7 @@ commit_starved read_set p calls (Back a n i) h = (h.0, starved_other a h.1, h.2)
 commit_starved read_set p calls (Over a) h = (h.0, λ e. h.1 (starved_won a e))
 
 pub commit_begins : (read_set : List ReadItem) (p : Work) → CommitCounted read_set p [] (preparing p 0)
-commit_begins read_set p = by (nat_lt 0 (length p.writes)) refl (nat_lt 0 (length (checks p))) refl
+commit_begins read_set p = by (nat_lt 0 (groups_of p)) refl (nat_lt 0 (length (checks p))) refl
   where
     empty : {X : Type 0} (xs : List X) → nat_lt 0 (length xs) ≡ false → xs ≡ []
     empty [] e = refl
@@ -566,17 +628,17 @@ commit_begins read_set p = by (nat_lt 0 (length p.writes)) refl (nat_lt 0 (lengt
         some : (n : ℕ) → nat_lt 0 (suc n) ≡ false → ⊥
         some n k = absurd (grind (arith, nat_tests))
 
-    none : nat_lt 0 (length p.writes) ≡ false → AllPut p []
-    none e = sym (ap (map (prepare_of p.id p.now)) (empty p.writes e))
+    none : nat_lt 0 (groups_of p) ≡ false → AllPut p []
+    none e = sym (ap (map (prepares_of p.id p.now)) (empty (grouped p.writes) e))
 
-    both : nat_lt 0 (length p.writes) ≡ false → 0 ≡ length p.writes + 0
-    both e = sum (length p.writes) (ap length (empty p.writes e))
+    both : nat_lt 0 (groups_of p) ≡ false → 0 ≡ groups_of p + 0
+    both e = sum (groups_of p) (ap length (empty (grouped p.writes) e))
       where
         sum : (w : ℕ) → w ≡ 0 → 0 ≡ w + 0
         sum w k = omega (arith, k)
 
-    all : nat_lt 0 (length p.writes) ≡ false → nat_lt 0 (length (checks p)) ≡ false → 0 ≡ later_by p 0
-    all e f = sum (length p.writes) (length (checks p)) (ap length (empty p.writes e)) (ap length (empty (checks p) f))
+    all : nat_lt 0 (groups_of p) ≡ false → nat_lt 0 (length (checks p)) ≡ false → 0 ≡ later_by p 0
+    all e f = sum (groups_of p) (length (checks p)) (ap length (empty (grouped p.writes) e)) (ap length (empty (checks p) f))
       where
         sum : (w c : ℕ) → w ≡ 0 → c ≡ 0 → 0 ≡ w + c + 0
         sum w c k l = omega (arith, k, l)
@@ -584,7 +646,7 @@ commit_begins read_set p = by (nat_lt 0 (length p.writes)) refl (nat_lt 0 (lengt
     below : (n : ℕ) → nat_lt 0 n ≡ true → 0 < n
     below n k = grind (arith, nat_tests)
 
-    by : (a : Bool) → nat_lt 0 (length p.writes) ≡ a → (b : Bool) → nat_lt 0 (length (checks p)) ≡ b → CommitCounted read_set p [] (if a then Preparing 0 else (if b then Checking 0 else Deciding phase.Put))
+    by : (a : Bool) → nat_lt 0 (groups_of p) ≡ a → (b : Bool) → nat_lt 0 (length (checks p)) ≡ b → CommitCounted read_set p [] (if a then Preparing 0 else (if b then Checking 0 else Deciding phase.Put))
     by true e b f = (refl, refl, refl)
     by false e true f = (none e, below (length (checks p)) f, both e)
     by false e false f = (none e, all e f, λ n. refl)
@@ -592,16 +654,16 @@ commit_begins read_set p = by (nat_lt 0 (length p.writes)) refl (nat_lt 0 (lengt
 ---- what follows
 
 -- so far they are not more than it is to make at most
-most_now : (read_set : List ReadItem) (p : Work) (calls : List StoreCall) (s : Stage) → ReadItemsAre read_set p.reads p.scans → CommitCounted read_set p calls s → length calls ≤ wanted_by read_set p.id calls + 4
-most_now read_set p calls (Preparing i) as_read h = by (length calls) (length (prepares_in p.id calls)) (count_by (is_checked_get (prepares_in p.id calls)) read_set + count_by is_scan read_set) i h.0 h.1
+most_now : (read_set : List ReadItem) (p : Work) (calls : List StoreCall) (s : Stage) → ReadItemsAre read_set p.reads p.scans → CommitCounted read_set p calls s → length calls ≤ allowed_by read_set p.id calls + 4
+most_now read_set p calls (Preparing i) as_read h = by (length calls) (length (prepares_in p.id calls)) (puts_prepared p.id calls + checks_by read_set p.id calls) i h.0 h.1
   where
-    by : (x y z i : ℕ) → x ≡ i → y ≡ i → x ≤ 2 * y + z + 4
+    by : (x y z i : ℕ) → x ≡ i → y ≡ i → x ≤ y + z + 4
     by x y z i e f = omega (arith, e, f)
-most_now read_set p calls (Checking i) as_read h = by (length calls) (length p.writes) (length (checks p)) (wanted_by read_set p.id calls) i (wanted_is read_set p calls as_read h.0) h.1 h.2
+most_now read_set p calls (Checking i) as_read h = by (length calls) (groups_of p) (length p.writes) (length (checks p)) (allowed_by read_set p.id calls) i (allowed_is read_set p calls as_read h.0) h.1 h.2
   where
-    by : (x w c z i : ℕ) → z ≡ 2 * w + c → i < c → x ≡ w + i → x ≤ z + 4
-    by x w c z i e l f = omega (arith, e, l, f)
-most_now read_set p calls (Deciding d) as_read h = by (length calls) (length p.writes) (length (checks p)) (wanted_by read_set p.id calls) (decides d) (few d) (wanted_is read_set p calls as_read h.0) h.1
+    by : (x g w c z i : ℕ) → z ≡ g + (w + c) → i < c → x ≡ g + i → x ≤ z + 4
+    by x g w c z i e l f = omega (arith, e, l, f)
+most_now read_set p calls (Deciding d) as_read h = by (length calls) (groups_of p) (length p.writes) (length (checks p)) (allowed_by read_set p.id calls) (decides d) (few d) (allowed_is read_set p calls as_read h.0) h.1
   where
     few : (x : DecidePhase) → decides x ≤ 3
     few phase.Put = omega arith
@@ -610,17 +672,17 @@ most_now read_set p calls (Deciding d) as_read h = by (length calls) (length p.w
     few phase.Again = omega arith
     few phase.Ended = omega arith
 
-    by : (x w c z k : ℕ) → k ≤ 3 → z ≡ 2 * w + c → x ≡ w + c + k → x ≤ z + 4
-    by x w c z k l e f = omega (arith, l, e, f)
-most_now read_set p calls (Forward i) as_read h = by (length calls) (length p.writes) (length (checks p)) (wanted_by read_set p.id calls) i (wanted_is read_set p calls as_read h.0) h.1 h.2
+    by : (x g w c z k : ℕ) → k ≤ 3 → z ≡ g + (w + c) → x ≡ g + c + k → x ≤ z + 4
+    by x g w c z k l e f = omega (arith, l, e, f)
+most_now read_set p calls (Forward i) as_read h = by (length calls) (groups_of p) (length p.writes) (length (checks p)) (allowed_by read_set p.id calls) i (few_groups p) (allowed_is read_set p calls as_read h.0) h.1 h.2
   where
-    by : (x w c z i : ℕ) → z ≡ 2 * w + c → i < w → x ≤ w + c + 4 + i → x ≤ z + 4
-    by x w c z i e l f = omega (arith, e, l, f)
-most_now read_set p calls (Stopping a n) as_read h = by (length calls) (wanted_by read_set p.id calls) h.1
+    by : (x g w c z i : ℕ) → g ≤ w → z ≡ g + (w + c) → i < g → x ≤ g + c + 4 + i → x ≤ z + 4
+    by x g w c z i few e l f = omega (arith, few, e, l, f)
+most_now read_set p calls (Stopping a n) as_read h = by (length calls) (allowed_by read_set p.id calls) h.1
   where
     by : (x z : ℕ) → x + (1 + n) ≤ z + 4 → x ≤ z + 4
     by x z l = omega (arith, l)
-most_now read_set p calls (Back a n i) as_read h = by (length calls) (wanted_by read_set p.id calls) h.0 h.2
+most_now read_set p calls (Back a n i) as_read h = by (length calls) (allowed_by read_set p.id calls) h.0 h.2
   where
     by : (x z : ℕ) → i < n → x + n ≤ z + 4 + i → x ≤ z + 4
     by x z l k = omega (arith, l, k)
@@ -654,7 +716,7 @@ commit_over read_set p calls a h ends = record { exact = λ e. h.1 (won a e); mo
 
 -- of one that makes no call, and isn't answered Committed
 pub commit_none : (read_set : List ReadItem) (id : TxId) (o : Option Answer) → (o ≢ Some answer.Committed) → CommitIsCounted read_set id o []
-commit_none read_set id o other = record { exact = λ e. absurd (other e); most = few (wanted_by read_set id []); starved = λ e. tt }
+commit_none read_set id o other = record { exact = λ e. absurd (other e); most = few (allowed_by read_set id []); starved = λ e. tt }
   where
     few : (x : ℕ) → 0 ≤ x + 4
     few x = omega arith

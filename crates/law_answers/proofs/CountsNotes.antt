@@ -65,6 +65,7 @@ noted_read (access.Get key) calls images read_set t h own k = subst (λ ns. Read
     by : (r : Reply) → CanAnswer (ask.Get key) r → IsRows r → ReadItemsAre (read_set ++ cons_option (read_item_of calls (ask.Get key) r) []) (with_rows_read t (access.Get key) images).seen.reads t.seen.scans
     by (reply.Found found) can answered = with_got read_set _ t.seen _ refl k
     by (reply.Rows rows) can answered = absurd can
+    by (reply.NotAll place there) can answered = absurd can
     by reply.Applied can answered = absurd answered
     by (reply.NotMet found) can answered = absurd answered
     by reply.Fault can answered = absurd answered
@@ -73,6 +74,7 @@ noted_read (access.Scan span) calls images read_set t h own k = subst (λ ns. Re
   where
     by : (r : Reply) → CanAnswer (ask.Scan span) r → IsRows r → ReadItemsAre (read_set ++ cons_option (read_item_of calls (ask.Scan span) r) []) t.seen.reads (with_rows_read t (access.Scan span) images).seen.scans
     by (reply.Rows rows) can answered = with_scanned read_set _ t.seen _ k
+    by (reply.NotAll place there) can answered = absurd can
     by (reply.Found found) can answered = absurd can
     by reply.Applied can answered = absurd answered
     by (reply.NotMet found) can answered = absurd answered

@@ -9,10 +9,10 @@ use Rattle.sdb_types.specs.declared.record.Reply.TheVariants as reply
 use Rattle.sdb_types.specs.Contents.{CanAnswer}
 use Rattle.sdb_phases.specs.declared.step.Outcome.TheVariants as outcome
 use Rattle.sdb_phases.specs.declared.step.DecidePhase.TheVariants as phase
-use Rattle.sdb_phases.specs.Work.{Work, prepares, forwards, backs, decide_of, abort_of}
+use Rattle.sdb_phases.specs.Work.{Work, groups_of, prepares, forwards, backs, decide_of, abort_of}
 use Rattle.sdb_phases.specs.Checks.{checks, difference_in}
 use Rattle.sdb_phases.specs.Commit.{Stage, Preparing, Checking, Deciding, Forward, Stopping, Back, Over}
-use Rattle.sdb_phases.specs.CommitLaws.{IsLost, writes_of, reads_of}
+use Rattle.sdb_phases.specs.CommitLaws.{IsLost, reads_of}
 use Rattle.law_answers.specs.Paths.{Call, Asks, Begins, IsForRow, requests_of, check_requests}
 use Rattle.law_answers.specs.Ends.{IsGivenUp, IsLearned, IsPassed, IsPrepareChanged, IsPutOutOfMemory, IsUndecided, IsUndone}
 use Rattle.law_answers.proofs.PathLists.{take_next}
@@ -145,30 +145,30 @@ NotOwn p calls = AllByRecursion (λ c. c.request ≢ abort_of p.id p.now) calls
 
 pub record AtPrepare (p : Work) (calls : List Call) (i : ℕ) : Type 0 where
   pub whole : calls ≡ map applied (take i (prepares p))
-  pub within : i < writes_of p
+  pub within : i < groups_of p
   pub asks : AsksTo p calls i 0 [] []
   pub clear : Clear p calls
 
 pub record AtCheck (p : Work) (calls : List Call) (i : ℕ) : Type 0 where
   pub checked : Checked p i calls
   pub within : i < reads_of p
-  pub asks : AsksTo p calls (writes_of p) i [] []
+  pub asks : AsksTo p calls (groups_of p) i [] []
   pub clear : Clear p calls
 
 pub record AtPut (p : Work) (calls : List Call) : Type 0 where
   pub checked : Checked p (reads_of p) calls
-  pub asks : AsksTo p calls (writes_of p) (reads_of p) [] []
+  pub asks : AsksTo p calls (groups_of p) (reads_of p) [] []
   pub clear : Clear p calls
 
 pub record AtRow (p : Work) (calls : List Call) : Type 0 where
   pub leads : Leads p calls
   pub row : List Request
-  pub asks : AsksTo p calls (writes_of p) (reads_of p) row []
+  pub asks : AsksTo p calls (groups_of p) (reads_of p) row []
 
 pub record AtForward (p : Work) (calls : List Call) (rolls : List Request) : Type 0 where
   pub leads : Leads p calls
   pub row : List Request
-  pub asks : AsksTo p calls (writes_of p) (reads_of p) row rolls
+  pub asks : AsksTo p calls (groups_of p) (reads_of p) row rolls
   pub learned : IsLearned p calls
 
 -- it has stopped, or rolls back
@@ -200,7 +200,7 @@ Goes p calls (Deciding phase.Look) = AtRow p calls × NotOwn p calls
 Goes p calls (Deciding phase.Abort) = AtRow p calls × NotOwn p calls
 Goes p calls (Deciding phase.Again) = AtRow p calls
 Goes p calls (Deciding phase.Ended) = ⊥
-Goes p calls (Forward i) = AtForward p calls (take i (forwards p)) × (i < writes_of p)
+Goes p calls (Forward i) = AtForward p calls (take i (forwards p)) × (i < groups_of p)
 Goes p calls (Stopping a n) = AtBack p calls a n []
 Goes p calls (Back a n i) = AtBack p calls a n (take i (backs p)) × (i < n)
 Goes p calls (Over a) = Ends p calls a

@@ -10,11 +10,13 @@ use Rattle.sdb_types.specs.declared.record.Reply.TheVariants as reply
 use Rattle.sdb_types.proofs.Public.{lt_of}
 use Rattle.sdb_phases.specs.declared.step.Outcome.TheVariants as outcome
 use Rattle.sdb_phases.specs.declared.step.DecidePhase.TheVariants as phase
-use Rattle.sdb_phases.specs.Work.{Work, prepares, prepare_of, forwards, forward_of, backs, back_of, decide_of}
+use Rattle.sdb_phases.specs.Work.{Work, groups_of, prepares, prepares_of, forwards, forwards_of, backs, back_of, decide_of}
 use Rattle.sdb_phases.specs.Checks.{checks}
 use Rattle.sdb_phases.specs.Commit.{Stage, Preparing, Checking, Deciding, Forward, Stopping, Back, Over, after, pending}
 use Rattle.sdb_phases.specs.CommitLaws.{IsLost, AreReplies, writes_of, reads_of}
-use Rattle.sdb_phases.proofs.Public.{asks_deciding_put}
+use Rattle.sdb_record.specs.Groups.{grouped, in_groups}
+use Rattle.sdb_record.proofs.Public.{in_groups_length}
+use Rattle.sdb_phases.proofs.Public.{asks_deciding_put, writes_within}
 use Rattle.law_answers.specs.Paths.{Call, Asks, Begins, IsAsked, Makes, calls_of_path, is_over, undone}
 use Rattle.law_answers.specs.Ends.{HasChangedBy, HasPassed, IsApplied, IsGivenUp, IsLearned, IsPassed, IsPutOutOfMemory, IsReady, IsUndecided, IsUndone, has_committed, is_checked, is_prepared}
 use Rattle.law_answers.proofs.PathLists.{get_behind, get_front, get_some, get_take, zip_at}
@@ -28,7 +30,7 @@ use Rattle.law_answers.proofs.PathConflicts.{has_moved}
 
 pub rolls_committed : (p : Work) (calls : List Call) → Makes p calls (Over outcome.Committed) → Asks p calls (forwards p)
 rolls_committed p calls m =
-    let at = goes_made p calls (Over outcome.Committed) m in asks_of p calls (writes_of p) (reads_of p) at.row (forwards p) at.asks
+    let at = goes_made p calls (Over outcome.Committed) m in asks_of p calls (groups_of p) (reads_of p) at.row (forwards p) at.asks
 
 lost_so : (p : Work) (calls : List Call) (a : Outcome) → IsLost a → Ends p calls a → IsUndone p calls
 lost_so p calls outcome.Committed lost at = absurd lost
@@ -41,15 +43,15 @@ rolls_lost p calls a lost m = lost_so p calls a lost (goes_made p calls (Over a)
 
 pub rolls_unknown : (p : Work) (calls : List Call) (id : TxId) → Makes p calls (Over (outcome.Unknown id)) → Asks p calls []
 rolls_unknown p calls id m =
-    let at = goes_made p calls (Over (outcome.Unknown id)) m in asks_of p calls (writes_of p) (reads_of p) at.row [] at.asks
+    let at = goes_made p calls (Over (outcome.Unknown id)) m in asks_of p calls (groups_of p) (reads_of p) at.row [] at.asks
 
 pub rolls_bad : (p : Work) (calls : List Call) (key : Key) → Makes p calls (Over (outcome.BadRecord key)) → Asks p calls []
 rolls_bad p calls key m =
-    let at = goes_made p calls (Over (outcome.BadRecord key)) m in asks_of p calls (writes_of p) (reads_of p) at.row [] at.asks
+    let at = goes_made p calls (Over (outcome.BadRecord key)) m in asks_of p calls (groups_of p) (reads_of p) at.row [] at.asks
 
 pub rolling_forward : (p : Work) (calls : List Call) (i : ℕ) → Makes p calls (Forward i) → Asks p calls (take i (forwards p))
 rolling_forward p calls i m =
-    let at = goes_made p calls (Forward i) m in asks_of p calls (writes_of p) (reads_of p) at.0.row (take i (forwards p)) at.0.asks
+    let at = goes_made p calls (Forward i) m in asks_of p calls (groups_of p) (reads_of p) at.0.row (take i (forwards p)) at.0.asks
 
 take_front : {A : Type 0} (xs : List A) (n i : ℕ) → i < n → take i (take n xs) ≡ take i xs
 take_front xs n i l = take-take i n xs (omega arith)
@@ -95,7 +97,7 @@ begins_over p calls (outcome.BadRecord key) at = begins_led p calls at.leads
 begins_over p calls a at = at.begins
 
 begins_stage : (p : Work) (calls : List Call) (s : Stage) → Goes p calls s → Begins p calls
-begins_stage p calls (Preparing i) at = subst (Begins p) (sym at.whole) (begins_front p.id p.now p.writes i)
+begins_stage p calls (Preparing i) at = subst (Begins p) (sym at.whole) (begins_front p.id p.now (grouped p.writes) i)
 begins_stage p calls (Checking i) at = begins_checked p i calls at.checked
 begins_stage p calls (Deciding phase.Put) at = begins_checked p (reads_of p) calls at.checked
 begins_stage p calls (Deciding phase.Look) at = begins_led p calls at.0.leads
@@ -149,20 +151,20 @@ pub prepared_at : (p : Work) (calls : List Call) (s : Stage) (i : ℕ) → Makes
 prepared_at p calls s i m is q h = applied_stage p calls s i q h is (goes_made p calls s m)
 
 abbrev PassedAt : Work → List Call → ℕ → Check → Type 0
-PassedAt p calls i k = (c : Call) × (slice_get calls (writes_of p + i) ≡ Some c) × IsPassed k c
+PassedAt p calls i k = (c : Call) × (slice_get calls (groups_of p + i) ≡ Some c) × IsPassed k c
 
-long_applied : (p : Work) → length (map applied (prepares p)) ≡ writes_of p
-long_applied p = length-map (prepares p) applied ∙ length-map p.writes (prepare_of p.id p.now)
+long_applied : (p : Work) → length (map applied (prepares p)) ≡ groups_of p
+long_applied p = length-map (prepares p) applied ∙ length-map (grouped p.writes) (prepares_of p.id p.now)
 
 passed_checked : (p : Work) (n : ℕ) (calls : List Call) (i : ℕ) (k : Check) → i < n → slice_get (checks p) i ≡ Some k → Checked p n calls → PassedAt p calls i k
 passed_checked p n calls i k l h d =
     let (c, at, passed) = zip_at IsPassed (take n (checks p)) d.done i k d.passed (get_take (checks p) n i l ∙ h) in
-    (c, ap (λ cs. slice_get cs (writes_of p + i)) d.whole ∙ ap (λ m. slice_get (map applied (prepares p) ++ d.done) (m + i)) (sym (long_applied p)) ∙ get_behind (map applied (prepares p)) d.done i ∙ at, passed)
+    (c, ap (λ cs. slice_get cs (groups_of p + i)) d.whole ∙ ap (λ m. slice_get (map applied (prepares p) ++ d.done) (m + i)) (sym (long_applied p)) ∙ get_behind (map applied (prepares p)) d.done i ∙ at, passed)
 
 passed_led : (p : Work) (calls : List Call) (i : ℕ) (k : Check) → slice_get (checks p) i ≡ Some k → Leads p calls → PassedAt p calls i k
 passed_led p calls i k h l =
     let (c, at, passed) = passed_checked p (reads_of p) l.front i k (slice_get_within (checks p) i k h) h l.checked in
-    (c, ap (λ cs. slice_get cs (writes_of p + i)) l.whole ∙ get_front l.front l.more (writes_of p + i) c at, passed)
+    (c, ap (λ cs. slice_get cs (groups_of p + i)) l.whole ∙ get_front l.front l.more (groups_of p + i) c at, passed)
 
 passed_stage : (p : Work) (calls : List Call) (s : Stage) (i : ℕ) (k : Check) → slice_get (checks p) i ≡ Some k → is_checked i s ≡ true → Goes p calls s → PassedAt p calls i k
 passed_stage p calls (Checking j) i k h is at = passed_checked p j calls i k (lt_of i j is) h at.checked
@@ -187,7 +189,7 @@ checked_at p calls s i m is k h = passed_stage p calls s i k h is (goes_made p c
 ready_front : (p : Work) (calls more : List Call) → IsReady p calls → IsReady p (calls ++ more)
 ready_front p calls more ready = record {
   prepared = λ i q h. get_front calls more i (record { request = q; reply = reply.Applied }) (ready.prepared i q h);
-  checked = λ i k h. let at = ready.checked i k h in (at.0, get_front calls more (writes_of p + i) at.0 at.1, at.2);
+  checked = λ i k h. let at = ready.checked i k h in (at.0, get_front calls more (groups_of p + i) at.0 at.1, at.2);
 }
 
 ready_put : (p : Work) (calls : List Call) → Goes p calls (Deciding phase.Put) → IsReady p calls
@@ -237,16 +239,16 @@ is_there : {A : Type 0} (xs : List A) (i : ℕ) → i < length xs → is_some (s
 is_there xs i l = let (x, h) = get_some xs i l in ap is_some h
 
 asks_stage : (p : Work) (calls : List Call) (s : Stage) → is_over s ≡ false → Goes p calls s → is_some (pending p s) ≡ true
-asks_stage p calls (Preparing i) not at = is_there (prepares p) i (subst (λ n. i < n) (sym (length-map p.writes (prepare_of p.id p.now))) at.within)
+asks_stage p calls (Preparing i) not at = is_there (prepares p) i (subst (λ n. i < n) (sym (length-map (grouped p.writes) (prepares_of p.id p.now))) at.within)
 asks_stage p calls (Checking i) not at = let (k, h) = get_some (checks p) i at.within in ap (λ o. is_some (option_map (λ (c : Check). c.request) o)) h
 asks_stage p calls (Deciding phase.Put) not at = refl
 asks_stage p calls (Deciding phase.Look) not at = refl
 asks_stage p calls (Deciding phase.Abort) not at = refl
 asks_stage p calls (Deciding phase.Again) not at = refl
 asks_stage p calls (Deciding phase.Ended) not at = absurd at
-asks_stage p calls (Forward i) not at = is_there (forwards p) i (subst (λ n. i < n) (sym (length-map p.writes (forward_of p.id p.now))) at.1)
+asks_stage p calls (Forward i) not at = is_there (forwards p) i (subst (λ n. i < n) (sym (length-map (grouped p.writes) (forwards_of p.id p.now))) at.1)
 asks_stage p calls (Stopping a n) not at = refl
-asks_stage p calls (Back a n i) not at = is_there (backs p) i (subst (λ m. i < m) (sym (length-map p.writes (back_of p.id))) (within i n (writes_of p) at.1 at.0.touches.within))
+asks_stage p calls (Back a n i) not at = is_there (backs p) i (subst (λ m. i < m) (sym (length-map (in_groups p.writes) (back_of p.id) ∙ in_groups_length p.writes)) (within i n (writes_of p) at.1 (subst (λ k. k ≤ writes_of p) at.0.touches.writes (writes_within p at.0.touches.groups))))
   where
     within : (i n m : ℕ) → i < n → n ≤ m → i < m
     within i n m a b = omega arith

@@ -17,6 +17,7 @@ mod Moving
 mod ReadSets
 mod Conflicts
 mod Counts
+mod PreparedKeys
 mod CountsCommit
 mod CountsNotes
 mod Counting
@@ -41,6 +42,7 @@ mod PathCalls
 mod PathRows
 mod Touches
 mod Goes
+mod Groups
 mod Steps
 mod PathConflicts
 mod Course

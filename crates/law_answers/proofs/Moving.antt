@@ -97,6 +97,7 @@ scan_shows calls span images k h = by h.first.reply refl h.can h.answered
     by (reply.Found found) e can answered = absurd can
     by reply.Applied e can answered = absurd answered
     by (reply.NotMet found) e can answered = absurd answered
+    by (reply.NotAll place there) e can answered = absurd answered
     by reply.Fault e can answered = absurd answered
     by reply.NoMemory e can answered = absurd answered
 

@@ -150,6 +150,7 @@ module _ (q : Request) (calls : List StoreCall) (m : StoreCall) (now : ℤ) (mom
   answered_shows a (reply.Rows rows) is none e f can = settled_shows q more [] rows (asked_now a is none e can (subst IsRows (sym f) tt) rows (ap records_read f) (scan_rises a rows (subst (λ (x : Request). CanAnswer x (reply.Rows rows)) is (subst (CanAnswer q) f can))))
   answered_shows a reply.Applied is none e f can = tt
   answered_shows a (reply.NotMet found) is none e f can = tt
+  answered_shows a (reply.NotAll place there) is none e f can = tt
   answered_shows a reply.Fault is none e f can = tt
   answered_shows a reply.NoMemory is none e f can = tt
 

@@ -59,6 +59,7 @@ got_by calls k images h = by h.first.reply refl h.can h.answered
       meant = found_meant calls (ask.Get k) images h found (λ r is. subst (λ (x : Reply). Contains (records_read x) r) (sym (e ∙ ap reply.Found is)) (Contains-push [] r));
     }
     by (reply.Rows rows) e can answered = absurd can
+    by (reply.NotAll place there) e can answered = absurd can
     by reply.Applied e can answered = absurd answered
     by (reply.NotMet found) e can answered = absurd answered
     by reply.Fault e can answered = absurd answered

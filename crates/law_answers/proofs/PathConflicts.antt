@@ -27,7 +27,7 @@ map_origin f [] i y h = absurd (cc)
 map_origin f (x ∷ xs) zero y h = (x, refl, some_is (f x) y h)
 map_origin f (x ∷ xs) (suc i) y h = map_origin f xs i y h
 
-append_origin : {A : Type 0} (xs ys : List A) (i : ℕ) (x : A) → slice_get (xs ++ ys) i ≡ Some x → (slice_get xs i ≡ Some x) ⊎ ((j : ℕ) × (slice_get ys j ≡ Some x))
+pub append_origin : {A : Type 0} (xs ys : List A) (i : ℕ) (x : A) → slice_get (xs ++ ys) i ≡ Some x → (slice_get xs i ≡ Some x) ⊎ ((j : ℕ) × (slice_get ys j ≡ Some x))
 append_origin [] ys i x h = inr (i, h)
 append_origin (y ∷ xs) ys zero x h = inl h
 append_origin (y ∷ xs) ys (suc i) x h = append_origin xs ys i x h
@@ -61,6 +61,7 @@ get_moved p c key found r j (reply.Found f) at free asked observed differs =
       moved = subst (λ f. IsChanged f r.version) there moved;
     }
 get_moved p c key found r j (reply.Rows rows) at free asked observed differs = absurd (cc)
+get_moved p c key found r j (reply.NotAll place there) at free asked observed differs = absurd (cc)
 get_moved p c key found r j reply.Applied at free asked observed differs = absurd (cc)
 get_moved p c key found r j (reply.NotMet f) at free asked observed differs = absurd (cc)
 get_moved p c key found r j reply.Fault at free asked observed differs = absurd (cc)
@@ -96,6 +97,7 @@ rescan_moved p c key found s j (reply.Rows rows) at asked observed fits differs 
 rescan_moved p c key found s j (reply.Found f) at asked observed fits differs = absurd (cc)
 rescan_moved p c key found s j reply.Applied at asked observed fits differs = absurd (cc)
 rescan_moved p c key found s j (reply.NotMet f) at asked observed fits differs = absurd (cc)
+rescan_moved p c key found s j (reply.NotAll place there) at asked observed fits differs = absurd (cc)
 rescan_moved p c key found s j reply.Fault at asked observed fits differs = absurd (cc)
 rescan_moved p c key found s j reply.NoMemory at asked observed fits differs = absurd (cc)
 

@@ -7,11 +7,12 @@ use Rattle.law_answers.specs.Types.{Check, Outcome, Read, Request, Scan, State, 
 use Rattle.sdb_types.specs.Contents.{is_version}
 use Rattle.sdb_record.specs.declared.coordinator.Decision.TheVariants as decision
 use Rattle.sdb_record.specs.Coordinator.{coordinator_row_of}
+use Rattle.sdb_record.specs.Groups.{grouped}
 use Rattle.sdb_record.specs.Rolls.{prepared_record, state_of_change}
 use Rattle.sdb_record.proofs.Public.{prepared-version}
 use Rattle.sdb_record.specs.Among.{is_written}
 use Rattle.sdb_phases.specs.declared.step.Outcome.TheVariants as outcome
-use Rattle.sdb_phases.specs.Work.{Work, prepare_of, decide_of, abort_of, look_of}
+use Rattle.sdb_phases.specs.Work.{Work, prepares_of, decide_of, abort_of, look_of}
 use Rattle.sdb_phases.specs.Checks.{checks, check_of_read, check_of_scan}
 use Rattle.sdb_phases.specs.Commit.{Preparing, Checking, Stopping, Back, pending}
 use Rattle.sdb_phases.proofs.Public.{asks_deciding_put}
@@ -21,17 +22,22 @@ row_no_version : (id other : TxId) (s : State) (now : ℤ) → is_version id s (
 unfolding coordinator_row_of
 row_no_version id other s now = refl
 
-prepare_other : (id : TxId) (now : ℤ) (w : Write) → prepare_of id now w ≢ abort_of id now
-prepare_other id now w e =
+put_other : (id : TxId) (now : ℤ) (w : Write) → prepares_of id now (w ∷ []) ≢ abort_of id now
+put_other id now w e =
     let same : prepared_record w id now ≡ coordinator_row_of id decision.Aborted now = cc in
     let none = row_no_version id id (state_of_change w.change) now in
     let is = prepared-version w id now in
     let so = ap (is_version id (state_of_change w.change)) same in
     cc
 
-prepared_other : (id : TxId) (now : ℤ) (o : Option Write) → option_map (prepare_of id now) o ≢ Some (abort_of id now)
+prepare_other : (id : TxId) (now : ℤ) (g : List Write) → prepares_of id now g ≢ abort_of id now
+prepare_other id now [] e = cc
+prepare_other id now (w ∷ []) e = put_other id now w e
+prepare_other id now (v ∷ w ∷ ws) e = cc
+
+prepared_other : (id : TxId) (now : ℤ) (o : Option (List Write)) → option_map (prepares_of id now) o ≢ Some (abort_of id now)
 prepared_other id now None e = cc
-prepared_other id now (Some w) e = prepare_other id now w (some_is (prepare_of id now w) (abort_of id now) e)
+prepared_other id now (Some g) e = prepare_other id now g (some_is (prepares_of id now g) (abort_of id now) e)
 
 scan_other : (id : TxId) (now : ℤ) (own : List Write) (o : Option Scan) → option_map (λ c. c.request) (option_map (check_of_scan own) o) ≢ Some (abort_of id now)
 scan_other id now own None e = cc
@@ -60,7 +66,7 @@ pub record NoRow (p : Work) (q : Request) : Type 0 where
 pub no_row_prepare : (p : Work) (i : ℕ) (q : Request) → pending p (Preparing i) ≡ Some q → NoRow p q
 no_row_prepare p i q e = record {
   no_put = λ same. let s = asks_deciding_put p (Preparing i) (e ∙ ap Some same) in cc;
-  no_abort = λ same. prepared_other p.id p.now (slice_get p.writes i) (sym (slice_get-map (prepare_of p.id p.now) p.writes i) ∙ e ∙ ap Some same);
+  no_abort = λ same. prepared_other p.id p.now (slice_get (grouped p.writes) i) (sym (slice_get-map (prepares_of p.id p.now) (grouped p.writes) i) ∙ e ∙ ap Some same);
 }
 
 pub no_row_check : (p : Work) (i : ℕ) (q : Request) → pending p (Checking i) ≡ Some q → NoRow p q

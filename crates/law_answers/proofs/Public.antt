@@ -3,11 +3,13 @@ pub use Rattle.law_answers.proofs.Calls.{before_same, before_taken, call_execute
 pub use Rattle.law_answers.proofs.Conflicts.{mapped_at, prepared_is, undo_unprepared}
 pub use Rattle.law_answers.proofs.Counting.{all_counted}
 pub use Rattle.law_answers.proofs.Counts.{calls_more, opens_first, opens_more, opens_one}
+pub use Rattle.law_answers.proofs.CountsCommit.{group_prepares}
 pub use Rattle.law_answers.proofs.CountsNotes.{last_or, open_only}
 pub use Rattle.law_answers.proofs.Ends.{commit_is}
 pub use Rattle.law_answers.proofs.Faults.{answered_seen, seen_no_faults}
 pub use Rattle.law_answers.proofs.Fitting.{RowFits, access_fits, all_fitting, exec_fitting, get_fitting, left_fits_or_was, left_fitting, left_outside, rows_fitting}
 pub use Rattle.law_answers.proofs.Given.{IsMiddle, asked_gives, given_middle, unfit_data}
+pub use Rattle.law_answers.proofs.Groups.{all_in_groups}
 pub use Rattle.law_answers.proofs.Knowing.{calls_wait, open_now, sweeps_now}
 pub use Rattle.law_answers.proofs.Later.{commit_stays}
 pub use Rattle.law_answers.proofs.Laws.{rolls_bad, rolls_committed, rolls_lost, rolls_unknown}

@@ -73,6 +73,11 @@ pub observed_read : (r : Reply) (x : Record) → Contains (records_read r) x →
 observed_read (reply.Found None) x h = h
 observed_read (reply.Found (Some y)) x h = h
 observed_read (reply.Rows rows) x h = h
+observed_read (reply.NotAll place None) x h = h
+observed_read (reply.NotAll place (Some y)) x h = absurd (none h)
+  where
+    none : Contains {X = Record} [] x → ⊥
+    none k = absurd (omega (arith, k.1))
 observed_read reply.Applied x h = h
 observed_read (reply.NotMet None) x h = h
 observed_read (reply.NotMet (Some y)) x h = absurd (none h)
@@ -149,12 +154,14 @@ module _ (events : List Event) (calls : List StoreCall) (m : StoreCall) (older :
   answered_is (access.Get key) (reply.Rows rows) k e f can = absurd can
   answered_is (access.Get key) reply.Applied k e f can = absurd can
   answered_is (access.Get key) (reply.NotMet found) k e f can = absurd can
+  answered_is (access.Get key) (reply.NotAll place there) k e f can = absurd can
   answered_is (access.Get key) reply.Fault k e f can = reply_now is_fault calls m reply.Fault f refl
   answered_is (access.Get key) reply.NoMemory k e f can = tt
   answered_is (access.Scan span) (reply.Found found) k e f can = absurd can
   answered_is (access.Scan span) (reply.Rows rows) k e f can = settled_is [] rows (found_rows (access.Scan span) (reply.Rows rows) k e f) (rows_data span rows k can)
   answered_is (access.Scan span) reply.Applied k e f can = absurd can
   answered_is (access.Scan span) (reply.NotMet found) k e f can = absurd can
+  answered_is (access.Scan span) (reply.NotAll place there) k e f can = absurd can
   answered_is (access.Scan span) reply.Fault k e f can = reply_now is_fault calls m reply.Fault f refl
   answered_is (access.Scan span) reply.NoMemory k e f can = tt
 

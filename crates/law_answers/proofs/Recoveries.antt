@@ -100,6 +100,13 @@ no_rows rec meta rows gets = by (before_record rec) gets
     by None gets = gets
     by (Some r) gets = gets
 
+no_batch : (rec : Record) (meta : Meta) (place : ℕ) (found : Option Record) → CanGet (recover_request_at rec meta phase.Back) (reply.NotAll place found) → ⊥
+no_batch rec meta place found gets = by (before_record rec) gets
+  where
+    by : (b : Option Record) → CanGet (Some (undo (is_as_found meta) rec.key b)) (reply.NotAll place found) → ⊥
+    by None gets = gets
+    by (Some r) gets = gets
+
 resolves_step : (rec : Record) (meta : Meta) (past : List Received) (d : RecoverPhase) (r : Reply) (n : ℤ) → RecoverInvariant rec meta past d → CanGet (recover_request_at rec meta d) r → is_served r ≡ true → holds_malformed meta.id r ≡ false → received_fault past ≡ false
     → By rec meta (record { reply = r; now = n } ∷ past) (recover_next rec meta d n r).0 (recover_next rec meta d n r).1
 resolves_step rec meta past phase.Look (reply.Found (Some row)) n s gets seen formed none = row_follows rec meta (record { reply = reply.Found (Some row); now = n } ∷ past) row gets formed
@@ -109,6 +116,7 @@ resolves_step rec meta past phase.Look reply.NoMemory n s gets seen formed none 
 resolves_step rec meta past (phase.Abort now) reply.Applied n s gets seen formed none = refl
 resolves_step rec meta past (phase.Abort now) (reply.NotMet (Some row)) n s gets seen formed none = row_follows rec meta (record { reply = reply.NotMet (Some row); now = n } ∷ past) row (gets.0 ∙ row-key meta.id decision.Aborted now) formed
 resolves_step rec meta past (phase.Abort now) (reply.NotMet None) n s gets seen formed none = absurd (clash gets.1)
+resolves_step rec meta past (phase.Abort now) (reply.NotAll place there) n s gets seen formed none = absurd gets
 resolves_step rec meta past (phase.Abort now) reply.Fault n s gets seen formed none = absurd (cc)
 resolves_step rec meta past (phase.Abort now) reply.NoMemory n s gets seen formed none = absurd (cc)
 resolves_step rec meta past (phase.Abort now) (reply.Found o) n s gets seen formed none = absurd gets
@@ -116,12 +124,14 @@ resolves_step rec meta past (phase.Abort now) (reply.Rows rows) n s gets seen fo
 resolves_step rec meta past phase.Again r n (calls, expired, faulted) gets seen formed none = clash (sym faulted ∙ none)
 resolves_step rec meta past (phase.Forward at) reply.Applied n s gets seen formed none = tt
 resolves_step rec meta past (phase.Forward at) (reply.NotMet o) n s gets seen formed none = tt
+resolves_step rec meta past (phase.Forward at) (reply.NotAll place there) n s gets seen formed none = absurd gets
 resolves_step rec meta past (phase.Forward at) reply.Fault n s gets seen formed none = absurd (cc)
 resolves_step rec meta past (phase.Forward at) reply.NoMemory n s gets seen formed none = absurd (cc)
 resolves_step rec meta past (phase.Forward at) (reply.Found o) n s gets seen formed none = absurd gets
 resolves_step rec meta past (phase.Forward at) (reply.Rows rows) n s gets seen formed none = absurd gets
 resolves_step rec meta past phase.Back reply.Applied n s gets seen formed none = tt
 resolves_step rec meta past phase.Back (reply.NotMet o) n s gets seen formed none = tt
+resolves_step rec meta past phase.Back (reply.NotAll place there) n s gets seen formed none = absurd (no_batch rec meta place there gets)
 resolves_step rec meta past phase.Back reply.Fault n s gets seen formed none = absurd (cc)
 resolves_step rec meta past phase.Back reply.NoMemory n s gets seen formed none = absurd (cc)
 resolves_step rec meta past phase.Back (reply.Found o) n s gets seen formed none = absurd (no_read rec meta o gets)

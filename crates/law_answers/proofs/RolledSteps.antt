@@ -139,6 +139,7 @@ module _ (events : List Event) (vacuums : Bool) (calls : List StoreCall) (m : St
   answered_rolls (reply.Rows rows) h = settle_rolls [] rows h
   answered_rolls reply.Applied h = tt
   answered_rolls (reply.NotMet found) h = tt
+  answered_rolls (reply.NotAll place there) h = tt
   answered_rolls reply.Fault h = tt
   answered_rolls reply.NoMemory h = tt
 
@@ -303,6 +304,7 @@ module _ (events : List Event) (vacuums : Bool) (calls : List StoreCall) (m : St
   answered_sweeps ss n (reply.Found found) h = tt
   answered_sweeps ss n reply.Applied h = tt
   answered_sweeps ss n (reply.NotMet found) h = tt
+  answered_sweeps ss n (reply.NotAll place there) h = tt
   answered_sweeps ss n reply.Fault h = tt
   answered_sweeps ss n reply.NoMemory h = tt
 
@@ -327,6 +329,7 @@ module _ (events : List Event) (vacuums : Bool) (calls : List StoreCall) (m : St
   removal_sweeps ss n left (reply.NotMet found) h = on_sweeps ss n left h
   removal_sweeps ss n left (reply.Found found) h = tt
   removal_sweeps ss n left (reply.Rows rows) h = tt
+  removal_sweeps ss n left (reply.NotAll place there) h = tt
   removal_sweeps ss n left reply.Fault h = tt
   removal_sweeps ss n left reply.NoMemory h = tt
 

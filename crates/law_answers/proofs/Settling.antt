@@ -120,6 +120,7 @@ module _ (calls : List StoreCall) where
       by (reply.Found found) e can answered =
           ap (λ (o : Option Record). KeyRead (record { key = key; version = version_of o }) ∷ []) (got_image h.steps found h.settled (ap records_read (sym e) ∙ h.rows ∙ append-nil (map (λ e. e.0) h.steps)) ∙ ap (λ is. slice_get is 0) (sym h.images_are))
       by (reply.Rows rows) e can answered = absurd can
+      by (reply.NotAll place there) e can answered = absurd can
       by reply.Applied e can answered = absurd answered
       by (reply.NotMet found) e can answered = absurd answered
       by reply.Fault e can answered = absurd answered
@@ -146,6 +147,7 @@ module _ (calls : List StoreCall) where
       by (reply.Rows rows) e can answered =
           ap (λ rs. SpanRead (record { span = span; found = rs }) ∷ [])
           (ap (reads_of calls) (ap records_read (sym e) ∙ h.rows ∙ append-nil (map (λ e. e.0) h.steps)) ∙ scan_images h.steps h.settled ∙ ap snapshot.reads_of (sym h.images_are))
+      by (reply.NotAll place there) e can answered = absurd can
       by (reply.Found found) e can answered = absurd can
       by reply.Applied e can answered = absurd answered
       by (reply.NotMet found) e can answered = absurd answered
@@ -181,6 +183,7 @@ scan_lies calls span images h = by h.first.reply refl h.can h.answered
     by (reply.Found found) e can answered = absurd can
     by reply.Applied e can answered = absurd answered
     by (reply.NotMet found) e can answered = absurd answered
+    by (reply.NotAll place there) e can answered = absurd answered
     by reply.Fault e can answered = absurd answered
     by reply.NoMemory e can answered = absurd answered
 

@@ -2,32 +2,35 @@
 use Rattle.std.proofs.Common.{◌≡◌, ◌<◌, ◌^◌, ◌+◌, ◌⊎◌, inl, inr, ℕ, Bool, true, false, not, cond, List, [], ◌∷◌, ◌++◌, map, length, Option, Some, None, Result, Ok, Err, refl, sym, ap, subst, ◌∙◌}
 use Rattle.std.specs.Prelude.{if◌then◌else◌, filter, nat_lt, slice_get, IfSome}
 use Rattle.std.specs.List.{AllByRecursion}
-use Rattle.std.specs.Option.{option_and_then, option_map}
+use Rattle.std.specs.Option.{option_and_then, option_map, option_map_or}
 use Rattle.std.specs.Result.{result_ok}
 use Rattle.std.proofs.lemmas.List.Elements.{Contains-append_left, Contains-push}
-use Rattle.law_answers.specs.Types.{Check, DecideStep, Decided, Decision, Key, Outcome, Read, Record, Reply, Request, Scan, TxId, Write}
+use Rattle.law_answers.specs.Types.{Check, DecideStep, Decided, Decision, Key, Outcome, Put, Read, Record, Reply, Request, Scan, TxId, Write}
 use Rattle.sdb_types.specs.declared.record.Condition.TheVariants as condition
 use Rattle.sdb_types.specs.declared.record.Reply.TheVariants as reply
 use Rattle.sdb_types.specs.declared.record.Request.TheVariants as ask
-use Rattle.sdb_types.specs.Contents.{CanAnswer}
+use Rattle.sdb_types.specs.Contents.{CanAnswer, put_at}
 use Rattle.sdb_types.proofs.Public.{all_each as each_any, append_all as each_append, clash, none_some, some_is}
 use Rattle.sdb_record.specs.declared.coordinator.Decision.TheVariants as decision
 use Rattle.sdb_record.specs.Coordinator.{coordinator_key_of, coordinator_row_of, decision_in}
+use Rattle.sdb_record.specs.Groups.{grouped, in_groups}
 use Rattle.sdb_record.specs.Meta.{is_moment}
 use Rattle.sdb_record.specs.Rolls.{IsBaseOf, IsWrite, undo}
-use Rattle.sdb_record.proofs.Public.{prepared-key, row-decision, row-key}
+use Rattle.sdb_record.proofs.Public.{grouped_all, prepared-key, row-decision, row-key}
 use Rattle.sdb_record.specs.Among.{is_written}
 use Rattle.sdb_model.specs.Calls.{StoreCall, decision_learned, decision_in_reply, is_of_row, key_asked, put_by, records_observed, record_at_key}
 use Rattle.sdb_model.specs.Causes.{HasReply, IsDecided, PutsRow}
 use Rattle.sdb_phases.specs.declared.step.DecidePhase.TheVariants as phase
 use Rattle.sdb_phases.specs.declared.step.DecideStep.TheVariants as decide
 use Rattle.sdb_phases.specs.declared.step.Outcome.TheVariants as outcome
+use Rattle.sdb_phases.specs.declared.step.PrepareStep.TheVariants as prepare
 use Rattle.sdb_phases.specs.Checks.{check_of_read, check_of_scan, checks, difference_in}
 use Rattle.sdb_phases.specs.Commit.{Stage, Preparing, Checking, Deciding, Forward, Stopping, Back, Over, after_abort, after_check, after_prepare, back, checking, decided, forward, pending, preparing, out_of_memory, out_of_memory_answer, step}
 use Rattle.sdb_phases.specs.Steps.{decide_next, judged, prepare_step, refused, step_of_row, touched_after, validate_step}
-use Rattle.sdb_phases.specs.Work.{Work, abort_of, back_of, backs, decide_of, look_of, prepare_of, prepares, is_as_prepared}
+use Rattle.sdb_phases.specs.Work.{Work, abort_of, back_of, backs, decide_of, groups_of, look_of, prepares, prepares_of, is_as_prepared, writes_before}
 use Rattle.law_clients.proofs.Public.{each_at, each_filter, each_map, each_more}
 use Rattle.law_answers.specs.Commits.{EndsBy, HasFailed, HasFaulted, IsFailing, IsUndecided, NoneDecides, NoneOfRow, PutsOutOfMemory, StageByCalls}
+use Rattle.law_answers.proofs.Groups.{all_in_groups}
 use Rattle.law_answers.proofs.Rows.{after_last, after_more, asks_data, asks_row, bad_stays, decided_stays, found_now, given_up_now, given_up_stays, learned_now, none_learned, none_puts, reply_now, reply_stays, shown_is, shows_bad_row}
 use Rattle.sdb_types.specs.Replies.{is_fault}
 use Rattle.sdb_model.specs.Tables.{is_data}
@@ -53,12 +56,18 @@ module _ (p : Work) (is : IsOfData p) where
 
   prepares_data : AllByRecursion (λ q. is_of_row p.id q ≡ false) (prepares p)
   prepares_data =
-      each_map (λ q. is_of_row p.id q ≡ false) (prepare_of p.id p.now) p.writes
-      (each_any (λ (w : Write). is_data w.key ≡ true) (λ (w : Write). is_of_row p.id (prepare_of p.id p.now w) ≡ false) p.writes
-      (λ w h. asks_data p.id (prepare_of p.id p.now w) w.key (ap Some (prepared-key w p.id p.now)) h) is.writes)
+      each_map (λ q. is_of_row p.id q ≡ false) (prepares_of p.id p.now) (grouped p.writes)
+      (each_any (AllByRecursion (λ (w : Write). is_data w.key ≡ true)) (λ (g : List Write). is_of_row p.id (prepares_of p.id p.now g) ≡ false) (grouped p.writes) group (grouped_all (λ (w : Write). is_data w.key ≡ true) p.writes is.writes))
+    where
+      group : (g : List Write) → AllByRecursion (λ (w : Write). is_data w.key ≡ true) g → is_of_row p.id (prepares_of p.id p.now g) ≡ false
+      group [] h = refl
+      group (w ∷ []) h = asks_data p.id (prepares_of p.id p.now (w ∷ [])) w.key (ap Some (prepared-key w p.id p.now)) h.0
+      group (v ∷ w ∷ ws) h = refl
 
   backs_data : AllByRecursion IsWrite p.writes → AllByRecursion (λ q. is_of_row p.id q ≡ false) (backs p)
-  backs_data valid = each_map (λ q. is_of_row p.id q ≡ false) (back_of p.id) p.writes (all p.writes is.writes valid)
+  backs_data valid =
+      each_map (λ q. is_of_row p.id q ≡ false) (back_of p.id) (in_groups p.writes)
+      (all_in_groups (λ (w : Write). is_of_row p.id (back_of p.id w) ≡ false) p.writes (all p.writes is.writes valid))
     where
       key_of : (w : Write) (o : Option Record) → IfSome o (IsBaseOf w.key) → key_asked (undo (is_as_prepared p.id w) w.key o) ≡ Some w.key
       key_of w None h = refl
@@ -117,7 +126,7 @@ module _ (p : Work) (is : IsOfData p) where
     ---- stages without a call
 
     forward_is : (i : ℕ) → EndsBy p.id more outcome.Committed → StageByCalls p more (forward p i)
-    forward_is i h = elim (nat_lt i (length p.writes)) as (λ b. StageByCalls p more (cond b (Forward i) (Over outcome.Committed))) [ true ↦ h | false ↦ h ]
+    forward_is i h = elim (nat_lt i (groups_of p)) as (λ b. StageByCalls p more (cond b (Forward i) (Over outcome.Committed))) [ true ↦ h | false ↦ h ]
 
     back_is : (a : Outcome) (n i : ℕ) → EndsBy p.id more a → StageByCalls p more (back a n i)
     back_is a n i h = elim (nat_lt i n) as (λ b. StageByCalls p more (cond b (Back a n i) (Over a))) [ true ↦ h | false ↦ h ]
@@ -127,20 +136,26 @@ module _ (p : Work) (is : IsOfData p) where
 
     ---- prepares and checks
 
-    refused_is : (i n : ℕ) (o : Option Request) (found : Option Record) → NoneOfRow p.id more → StageByCalls p more (after_prepare p i n (refused o found))
-    refused_is i n None found none = starved_now none
-    refused_is i n (Some (ask.PutIf rec c)) found none = moved_now none
-    refused_is i n (Some (ask.Get key)) found none = starved_now none
-    refused_is i n (Some (ask.Scan span)) found none = starved_now none
-    refused_is i n (Some (ask.DeleteIf key c)) found none = starved_now none
+    refused_put : (i n : ℕ) (o : Option Put) (found : Option Record) → NoneOfRow p.id more → StageByCalls p more (after_prepare p i n (option_map_or (λ (u : Put). prepare.Conflict u.rec.key found) o prepare.NoMemory))
+    refused_put i n None found none = starved_now none
+    refused_put i n (Some u) found none = moved_now none
+
+    refused_is : (i n : ℕ) (o : Option Request) (k : ℕ) (found : Option Record) → NoneOfRow p.id more → StageByCalls p more (after_prepare p i n (refused o k found))
+    refused_is i n None k found none = starved_now none
+    refused_is i n (Some (ask.PutIf rec c)) k found none = moved_now none
+    refused_is i n (Some (ask.Get key)) k found none = starved_now none
+    refused_is i n (Some (ask.Scan span)) k found none = starved_now none
+    refused_is i n (Some (ask.DeleteIf key c)) k found none = starved_now none
+    refused_is i n (Some (ask.PutAll batch)) k found none = refused_put i n (put_at batch k) found none
 
     prepared_is : (b : Bool) (i n : ℕ) (o : Option Request) (r : Reply) → NoneOfRow p.id more → m.reply ≡ r → StageByCalls p more (after_prepare p i n (prepare_step b o r))
     prepared_is true i n o reply.Applied none e = none
     prepared_is false i n o reply.Applied none e = checking_is 0 none
-    prepared_is b i n o (reply.NotMet found) none e = refused_is i n o found none
+    prepared_is b i n o (reply.NotMet found) none e = refused_is i n o 1 found none
     prepared_is b i n o reply.Fault none e = reply_now is_fault calls m reply.Fault e refl
     prepared_is b i n o (reply.Found found) none e = starved_now none
     prepared_is b i n o (reply.Rows rows) none e = starved_now none
+    prepared_is b i n o (reply.NotAll place there) none e = refused_is i n o place there none
     prepared_is b i n o reply.NoMemory none e = starved_now none
 
     judged_is : (b : Bool) (i : ℕ) (o : Option (Key × Option Record)) → NoneOfRow p.id more → StageByCalls p more (after_check p i (judged b o))
@@ -155,10 +170,12 @@ module _ (p : Work) (is : IsOfData p) where
     checked_is b i None (reply.NotMet found) none e = starved_now none
     checked_is b i None (reply.Found found) none e = starved_now none
     checked_is b i None (reply.Rows rows) none e = starved_now none
+    checked_is b i None (reply.NotAll place there) none e = starved_now none
     checked_is b i (Some c) reply.Applied none e = judged_is b i (difference_in c reply.Applied) none
     checked_is b i (Some c) (reply.NotMet found) none e = judged_is b i (difference_in c (reply.NotMet found)) none
     checked_is b i (Some c) (reply.Found found) none e = judged_is b i (difference_in c (reply.Found found)) none
     checked_is b i (Some c) (reply.Rows rows) none e = judged_is b i (difference_in c (reply.Rows rows)) none
+    checked_is b i (Some c) (reply.NotAll place there) none e = judged_is b i (difference_in c (reply.NotAll place there)) none
 
     ---- the decision
 
@@ -256,6 +273,7 @@ module _ (p : Work) (is : IsOfData p) where
         committed a b = one_decision (option_and_then (λ (row : Record). result_ok (decision_in row)) (put_by m.request)) a b
     put_is (reply.Found found) none e f can = absurd (no_answer (decide_of p.id p.now) (reply.Found found) e f (λ k. k) can)
     put_is (reply.Rows rows) none e f can = absurd (no_answer (decide_of p.id p.now) (reply.Rows rows) e f (λ k. k) can)
+    put_is (reply.NotAll place there) none e f can = absurd (no_answer (decide_of p.id p.now) (reply.NotAll place there) e f (λ k. k) can)
     put_is reply.NoMemory none e f can =
         each_more (λ (x : StoreCall). PutsRow p.id decision.Committed x → x.reply ≡ reply.NoMemory) calls m (starves p.id calls (none_puts p.id decision.Committed calls none)) (λ puts. f)
 
@@ -274,6 +292,7 @@ module _ (p : Work) (is : IsOfData p) where
     look_is reply.Applied u e f can = absurd (no_answer (look_of p.id) reply.Applied e f (λ k. k) can)
     look_is (reply.NotMet found) u e f can = absurd (no_answer (look_of p.id) (reply.NotMet found) e f (λ k. k) can)
     look_is (reply.Rows rows) u e f can = absurd (no_answer (look_of p.id) (reply.Rows rows) e f (λ k. k) can)
+    look_is (reply.NotAll place there) u e f can = absurd (no_answer (look_of p.id) (reply.NotAll place there) e f (λ k. k) can)
 
     abort_is : (r : Reply) → IsUndecided p.id calls → m.request ≡ abort_of p.id p.now → m.reply ≡ r → CanAnswer m.request m.reply → StageByCalls p more (decided p (decide_next p.id phase.Abort r))
     abort_is reply.Applied u e f can = back_is outcome.Faulted (length p.writes) 0 (faulted_put u.put u.deciding)
@@ -288,6 +307,7 @@ module _ (p : Work) (is : IsOfData p) where
     abort_is reply.NoMemory u e f can = (refl, failing_now u (put_row decision.Aborted e) (inr f))
     abort_is (reply.Found found) u e f can = absurd (no_answer (abort_of p.id p.now) (reply.Found found) e f (λ k. k) can)
     abort_is (reply.Rows rows) u e f can = absurd (no_answer (abort_of p.id p.now) (reply.Rows rows) e f (λ k. k) can)
+    abort_is (reply.NotAll place there) u e f can = absurd (no_answer (abort_of p.id p.now) (reply.NotAll place there) e f (λ k. k) can)
 
     again_is : (r : Reply) → IsFailing p.id calls → m.request ≡ look_of p.id → m.reply ≡ r → CanAnswer m.request m.reply → StageByCalls p more (decided p (decide_next p.id phase.Again r))
     again_is (reply.Found (Some row)) u e f can =
@@ -300,12 +320,14 @@ module _ (p : Work) (is : IsOfData p) where
     again_is (reply.NotMet None) u e f can = (refl, failed_more u.failed)
     again_is (reply.NotMet (Some row)) u e f can = (refl, failed_more u.failed)
     again_is (reply.Rows rows) u e f can = (refl, failed_more u.failed)
+    again_is (reply.NotAll place there) u e f can = (refl, failed_more u.failed)
 
     stop_is : (a : Outcome) (n : ℕ) (r : Reply) → EndsBy p.id more a → StageByCalls p more (after_abort a n r)
     stop_is a n reply.Applied h = back_is a n 0 h
     stop_is a n (reply.NotMet found) h = back_is a n 0 h
     stop_is a n (reply.Found found) h = h
     stop_is a n (reply.Rows rows) h = h
+    stop_is a n (reply.NotAll place there) h = h
     stop_is a n reply.Fault h = h
     stop_is a n reply.NoMemory h = h
 
@@ -331,7 +353,7 @@ module _ (p : Work) (is : IsOfData p) where
     abort_asked e puts = one_decision (option_and_then (λ (row : Record). result_ok (decision_in row)) (put_by m.request)) puts.1 (puts_it decision.Aborted e).1
 
     pub stands_on : AllByRecursion IsWrite p.writes → (s : Stage) → StageByCalls p calls s → pending p s ≡ Some m.request → CanAnswer m.request m.reply → StageByCalls p more (step p s m.reply)
-    stands_on valid (Preparing i) h e can = prepared_is (nat_lt (i + 1) (length p.writes)) i (touched_after i m.reply) (slice_get (prepares p) i) m.reply (none_more h (prepare_asked i e)) refl
+    stands_on valid (Preparing i) h e can = prepared_is (nat_lt (i + 1) (groups_of p)) i (touched_after (slice_get (prepares p) i) (writes_before p i) m.reply) (slice_get (prepares p) i) m.reply (none_more h (prepare_asked i e)) refl
     stands_on valid (Checking i) h e can = checked_is (nat_lt (i + 1) (length (checks p))) i (slice_get (checks p) i) m.reply (none_more h (check_asked i e)) refl
     stands_on valid (Deciding phase.Put) h e can = put_is m.reply h (decision_asked (decide_of p.id p.now) e) refl can
     stands_on valid (Deciding phase.Look) h e can = look_is m.reply h (decision_asked (look_of p.id) e) refl can
@@ -364,7 +386,7 @@ starved_stands p calls (Over a) h = starved_ends p.id calls a h
 
 -- where a COMMIT begins
 pub begins_standing : (p : Work) → StageByCalls p [] (preparing p 0)
-begins_standing p = by (nat_lt 0 (length p.writes)) (nat_lt 0 (length (checks p)))
+begins_standing p = by (nat_lt 0 (groups_of p)) (nat_lt 0 (length (checks p)))
   where
     by : (a b : Bool) → StageByCalls p [] (if a then Preparing 0 else (if b then Checking 0 else Deciding phase.Put))
     by true b = tt

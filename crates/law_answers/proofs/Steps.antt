@@ -1,35 +1,39 @@
 -- What the calls of a COMMIT are after one more reply.
-use Rattle.std.proofs.Common.{◌≡◌, ◌≢◌, ◌≤◌, ◌⊎◌, inl, inr, ℕ, ◌+◌, ℤ, List, [], ◌∷◌, ◌++◌, length, take, map, Option, Some, None, Result, Ok, Err, true, false, refl, sym, ap, ◌∙◌, subst, arith, append_assoc}
-use Rattle.std.specs.Prelude.{Bool, slice_get, nat_lt}
+use Rattle.std.proofs.Common.{◌≡◌, ◌≢◌, ◌<◌, ◌≤◌, ◌⊎◌, inl, inr, ℕ, zero, suc, ◌+◌, ℤ, List, [], ◌∷◌, ◌++◌, length, take, map, Option, Some, None, Result, Ok, Err, true, false, refl, sym, ap, ◌∙◌, subst, arith, append_assoc}
+use Rattle.std.specs.Prelude.{◌-◌, Bool, IsSomeAnd, slice_get, nat_lt}
 use Rattle.std.specs.List.{AllZip}
-use Rattle.std.specs.Option.{option_map}
+use Rattle.std.specs.Option.{option_map, option_map_or}
 use Rattle.std.proofs.lemmas.Bool.Decides.{nat_tests}
 use Rattle.std.proofs.lemmas.List.{append-nil, map-append, length-map, take_all, take-map, nil_from_length}
 use Rattle.std.proofs.lemmas.List.Elements.{Contains-push}
 use Rattle.std.proofs.lemmas.Option.{slice_get-map}
 use Rattle.std.proofs.lemmas.Slice.Zip.{all_zipped_more}
-use Rattle.law_answers.specs.Types.{Check, DecidePhase, DecideStep, Decided, Decision, Key, Outcome, Record, Reply, Request, Write}
+use Rattle.law_answers.specs.Types.{Check, DecidePhase, DecideStep, Decided, Decision, Key, Outcome, Put, Record, Reply, Request, TxId, Write}
 use Rattle.sdb_types.specs.declared.record.Reply.TheVariants as reply
-use Rattle.sdb_types.specs.Contents.{CanAnswer}
+use Rattle.sdb_types.specs.Contents.{CanAnswer, IsUnmet}
 use Rattle.sdb_record.specs.declared.coordinator.Decision.TheVariants as decision
 use Rattle.sdb_record.specs.Coordinator.{coordinator_key_of, decision_in}
+use Rattle.sdb_record.specs.Groups.{grouped, in_groups, ungrouped}
+use Rattle.sdb_record.specs.Moved.{IsChanged, version_of}
 use Rattle.sdb_record.specs.Rolls.{prepared_record}
 use Rattle.sdb_record.proofs.Public.{prepared-key, row-key}
 use Rattle.sdb_phases.specs.declared.step.Outcome.TheVariants as outcome
 use Rattle.sdb_phases.specs.declared.step.DecideStep.TheVariants as steps
 use Rattle.sdb_phases.specs.declared.step.DecidePhase.TheVariants as phase
-use Rattle.sdb_phases.specs.Work.{Work, prepares, prepare_of, forwards, backs, back_of, decide_of, abort_of, look_of}
+use Rattle.sdb_phases.specs.declared.step.PrepareStep.TheVariants as prepare
+use Rattle.sdb_phases.specs.Work.{Work, groups_of, prepares, prepare_of, prepares_of, forwards, backs, back_of, decide_of, abort_of, look_of, writes_before}
 use Rattle.sdb_phases.specs.Checks.{checks, difference_in}
 use Rattle.sdb_phases.specs.Steps as small
 use Rattle.sdb_phases.specs.Steps.{CanGet}
 use Rattle.sdb_phases.specs.Commit.{Stage, Preparing, Checking, Deciding, Forward, Stopping, Back, Over, pending, step, after, preparing, checking, forward, back, after_prepare, after_check, after_decide}
 use Rattle.sdb_phases.specs.CommitLaws.{IsLost, AreReplies, writes_of, reads_of}
-use Rattle.law_answers.specs.Paths.{Call, IsForRow, Makes, calls_of_path, check_requests, undone, with_call}
-use Rattle.law_answers.specs.Ends.{IsGivenUp, IsLearned, IsPassed, IsPrepareChanged, IsPutOutOfMemory, IsUndecided, ObservesRow, is_served}
+use Rattle.law_answers.specs.Paths.{Call, IsForRow, Makes, calls_of_path, check_requests, touched_by, undone, with_call}
+use Rattle.law_answers.specs.Ends.{IsGivenUp, IsLearned, IsPassed, IsPrepareChanged, IsPutOutOfMemory, IsUndecided, ObservesRow, is_served, unmet_reply}
 use Rattle.law_answers.proofs.PathLists.{contains_at, take_next}
 use Rattle.law_answers.proofs.PathRows.{NoRow, no_row_prepare, no_row_check, no_put_back, abort_no_put, put_no_abort, look_no_abort}
-use Rattle.law_answers.proofs.Touches.{Touches, applied, touches_more, touches_all, touches_fault, touches_stop, begins_here, writes_here}
+use Rattle.law_answers.proofs.Touches.{Touches, applied, touches_more, touches_all, touches_fault, touches_stop, begins_here, groups_here}
 use Rattle.law_answers.proofs.Goes.{AsksTo, AtBack, AtCheck, AtForward, AtLost, AtPrepare, AtPut, AtRow, Caused, Checked, Clear, Ends, Goes, Leads, NotOwn, asks_check, asks_of, asks_prepare, asks_roll, asks_row, by_stage, caused_more, leads_all, leads_more, learned_more}
+use Rattle.sdb_phases.proofs.Public.{writes_more}
 use Rattle.sdb_types.proofs.Public.{all_each, all_last}
 
 abbrev pub one : Request → Reply → Call
@@ -49,30 +53,40 @@ clear_more p calls q r clear none = all_last (λ (c : Call). NoRow p c.request) 
 
 ---- prepares
 
-start_checks : (p : Work) (calls : List Call) → calls ≡ map applied (prepares p) → AsksTo p calls (writes_of p) 0 [] [] → Clear p calls → Goes p calls (checking p 0)
+start_checks : (p : Work) (calls : List Call) → calls ≡ map applied (prepares p) → AsksTo p calls (groups_of p) 0 [] [] → Clear p calls → Goes p calls (checking p 0)
 start_checks p calls e asks clear =
     by_stage p calls (nat_lt 0 (length (checks p))) (Checking 0) (Deciding phase.Put)
     (λ t. record { checked = record { done = []; whole = e ∙ sym (append-nil (map applied (prepares p))); passed = tt }; within = grind (arith, nat_tests); asks = asks; clear = clear })
     (λ f. let none : 0 ≡ reads_of p = grind (arith, nat_tests) in
-    record { checked = record { done = []; whole = e ∙ sym (append-nil (map applied (prepares p))); passed = subst (λ n. AllZip IsPassed (take n (checks p)) []) none tt }; asks = subst (λ n. AsksTo p calls (writes_of p) n [] []) none asks; clear = clear })
+    record { checked = record { done = []; whole = e ∙ sym (append-nil (map applied (prepares p))); passed = subst (λ n. AllZip IsPassed (take n (checks p)) []) none tt }; asks = subst (λ n. AsksTo p calls (groups_of p) n [] []) none asks; clear = clear })
 
-long_prepares : (p : Work) → length (prepares p) ≡ writes_of p
-long_prepares p = length-map p.writes (prepare_of p.id p.now)
+long_prepares : (p : Work) → length (prepares p) ≡ groups_of p
+long_prepares p = length-map (grouped p.writes) (prepares_of p.id p.now)
 
 begins : (p : Work) → Goes p [] (preparing p 0)
 begins p =
-    by_stage p [] (nat_lt 0 (length p.writes)) (Preparing 0) (checking p 0)
+    by_stage p [] (nat_lt 0 (groups_of p)) (Preparing 0) (checking p 0)
     (λ t. record { whole = refl; within = grind (arith, nat_tests); asks = record { for_row = tt; whole = refl }; clear = tt })
-    (λ f. let none : writes_of p ≡ 0 = grind (arith, nat_tests) in
+    (λ f. let none : groups_of p ≡ 0 = grind (arith, nat_tests) in
     let nil : prepares p ≡ [] = nil_from_length (prepares p) (long_prepares p ∙ none) in
     start_checks p [] (ap (map applied) (sym nil)) (subst (λ n. AsksTo p [] n 0 [] []) (sym none) (record { for_row = tt; whole = refl })) tt)
 
-at_prepare : (p : Work) (i : ℕ) (w : Write) → slice_get p.writes i ≡ Some w → slice_get (prepares p) i ≡ Some (prepare_of p.id p.now w)
-at_prepare p i w h = slice_get-map (prepare_of p.id p.now) p.writes i ∙ ap (option_map (prepare_of p.id p.now)) h
+at_prepare : (p : Work) (i : ℕ) (g : List Write) → slice_get (grouped p.writes) i ≡ Some g → slice_get (prepares p) i ≡ Some (prepares_of p.id p.now g)
+at_prepare p i g h = slice_get-map (prepares_of p.id p.now) (grouped p.writes) i ∙ ap (option_map (prepares_of p.id p.now)) h
 
-prepared : (p : Work) (calls : List Call) (i : ℕ) (q : Request) (more : Bool) → AtPrepare p calls i → slice_get (prepares p) i ≡ Some q → more ≡ nat_lt (i + 1) (length p.writes)
-    → Goes p (calls ++ one q reply.Applied ∷ []) (after_prepare p i (i + 1) (small.prepare_step more (Some q) reply.Applied))
-prepared p calls i q more at h is = by more is
+pub no_found : (id : TxId) (now : ℤ) (g : List Write) (found : Option Record) → CanAnswer (prepares_of id now g) (reply.Found found) → ⊥
+no_found id now [] found can = can
+no_found id now (w ∷ []) found can = can
+no_found id now (v ∷ w ∷ ws) found can = can
+
+pub no_rows : (id : TxId) (now : ℤ) (g : List Write) (rows : List Record) → CanAnswer (prepares_of id now g) (reply.Rows rows) → ⊥
+no_rows id now [] rows can = can
+no_rows id now (w ∷ []) rows can = can
+no_rows id now (v ∷ w ∷ ws) rows can = can
+
+prepared : (p : Work) (calls : List Call) (i n : ℕ) (q : Request) (more : Bool) → AtPrepare p calls i → slice_get (prepares p) i ≡ Some q → more ≡ nat_lt (i + 1) (groups_of p)
+    → Goes p (calls ++ one q reply.Applied ∷ []) (after_prepare p i n (small.prepare_step more (Some q) reply.Applied))
+prepared p calls i n q more at h is = by more is
   where
     whole : calls ++ one q reply.Applied ∷ [] ≡ map applied (take (i + 1) (prepares p))
     whole = ap (λ cs. cs ++ one q reply.Applied ∷ []) at.whole ∙ sym (map-append applied (take i (prepares p)) (q ∷ [])) ∙ ap (map applied) (sym (take_next (prepares p) i q h))
@@ -83,41 +97,79 @@ prepared p calls i q more at h is = by more is
     clear : Clear p (calls ++ one q reply.Applied ∷ [])
     clear = clear_more p calls q reply.Applied at.clear (no_row_prepare p i q h)
 
-    by : (b : Bool) → b ≡ nat_lt (i + 1) (length p.writes) → Goes p (calls ++ one q reply.Applied ∷ []) (after_prepare p i (i + 1) (small.prepare_step b (Some q) reply.Applied))
+    by : (b : Bool) → b ≡ nat_lt (i + 1) (groups_of p) → Goes p (calls ++ one q reply.Applied ∷ []) (after_prepare p i n (small.prepare_step b (Some q) reply.Applied))
     by true e = record { whole = whole; within = grind (arith, nat_tests); asks = asks; clear = clear }
     by false e =
         let l = at.within in
-        let all : i + 1 ≡ writes_of p = grind (arith, nat_tests) in
+        let all : i + 1 ≡ groups_of p = grind (arith, nat_tests) in
         let m = long_prepares p in
-        start_checks p (calls ++ one q reply.Applied ∷ []) (whole ∙ ap (map applied) (take_all (i + 1) (prepares p) (omega arith))) (subst (λ n. AsksTo p (calls ++ one q reply.Applied ∷ []) n 0 [] []) all asks) clear
+        start_checks p (calls ++ one q reply.Applied ∷ []) (whole ∙ ap (map applied) (take_all (i + 1) (prepares p) (omega arith))) (subst (λ m. AsksTo p (calls ++ one q reply.Applied ∷ []) m 0 [] []) all asks) clear
 
 -- it stops at a prepare
 stopped : (p : Work) (calls : List Call) (i n : ℕ) (q : Request) (r : Reply) (a : Outcome) → AtPrepare p calls i → slice_get (prepares p) i ≡ Some q → IsLost a → Touches p (calls ++ one q r ∷ []) n → Caused p (calls ++ one q r ∷ []) a → AtBack p (calls ++ one q r ∷ []) a n []
 stopped p calls i n q r a at h lost touches caused =
     record { lost = lost; prepared = i + 1; checked = 0; row = []; asks = asks_prepare p calls i q r at.asks h; touches = touches; caused = caused }
 
-prepare_goes : (p : Work) (calls : List Call) (i : ℕ) (o : Option Write) (r : Reply) → slice_get p.writes i ≡ o → AtPrepare p calls i → CanGet (option_map (prepare_of p.id p.now) o) r
-    → Goes p (with_call (option_map (prepare_of p.id p.now) o) r calls) (after_prepare p i (small.touched_after i r) (small.prepare_step (nat_lt (i + 1) (length p.writes)) (option_map (prepare_of p.id p.now) o) r))
+-- the prepare of a group was not met at a write of it
+refuses : (p : Work) (calls : List Call) (i j : ℕ) (g : List Write) (w : Write) (r : Reply) (found : Option Record) → slice_get (grouped p.writes) i ≡ Some g → AtPrepare p calls i → slice_get g j ≡ Some w → IsChanged found (version_of w.base) → r ≡ unmet_reply g j found
+    → ((rest : List (List Write)) → touched_by g r rest ≡ []) → (r ≡ reply.Applied → ⊥) → AtBack p (calls ++ one (prepares_of p.id p.now g) r ∷ []) (outcome.Conflict (prepared_record w p.id p.now).key found) (writes_before p i) []
+refuses p calls i j g w r found h at there moved is ends not =
+    let changed : IsPrepareChanged p (one (prepares_of p.id p.now g) r) (prepared_record w p.id p.now).key found = record { group = g; among = contains_at (grouped p.writes) i g h; place = j; write = w; there = there; same = sym (prepared-key w p.id p.now); asked = refl; observed = is; moved = moved } in
+    stopped p calls i (writes_before p i) (prepares_of p.id p.now g) r (outcome.Conflict (prepared_record w p.id p.now).key found) at (at_prepare p i g h) tt
+    (touches_stop p calls i g r at.whole h ends not)
+    (one (prepares_of p.id p.now g) r, Contains-push calls (one (prepares_of p.id p.now g) r), inl changed, undecided_clear p (calls ++ one (prepares_of p.id p.now g) r ∷ []) (clear_more p calls (prepares_of p.id p.now g) r at.clear (no_row_prepare p i (prepares_of p.id p.now g) (at_prepare p i g h))))
+
+-- at the write of that place of a group of several
+refuses_batch : (p : Work) (calls : List Call) (i k : ℕ) (v w : Write) (ws : List Write) (found : Option Record) (o : Option Write) → slice_get (grouped p.writes) i ≡ Some (v ∷ w ∷ ws) → AtPrepare p calls i → 1 ≤ k → slice_get (v ∷ w ∷ ws) (k - 1) ≡ o
+    → IsSomeAnd (option_map (prepare_of p.id p.now) o) (λ u. IsUnmet u.condition u.rec.key found)
+    → Goes p (calls ++ one (prepares_of p.id p.now (v ∷ w ∷ ws)) (reply.NotAll k found) ∷ []) (after_prepare p i (writes_before p i) (option_map_or (λ (u : Put). prepare.Conflict u.rec.key found) (option_map (prepare_of p.id p.now) o) prepare.NoMemory))
+refuses_batch p calls i k v w ws found None h at some e can = absurd can
+refuses_batch p calls i k v w ws found (Some x) h at some e can =
+    refuses p calls i (k - 1) (v ∷ w ∷ ws) x (reply.NotAll k found) found h at e can.1 (ap (λ n. reply.NotAll n found) (back_one k some)) (λ rest. refl) (λ z. cc)
+  where
+    back_one : (n : ℕ) → 1 ≤ n → n ≡ (n - 1) + 1
+    back_one n l = omega (arith, l)
+
+abbrev StepsTo : Work → List Call → ℕ → List Write → Reply → Type 0
+StepsTo p calls i g r =
+    Goes p (calls ++ one (prepares_of p.id p.now g) r ∷ []) (after_prepare p i (small.touched_after (Some (prepares_of p.id p.now g)) (writes_before p i) r) (small.prepare_step (nat_lt (i + 1) (groups_of p)) (Some (prepares_of p.id p.now g)) r))
+
+not_met : (p : Work) (calls : List Call) (i : ℕ) (g : List Write) (found : Option Record) → slice_get (grouped p.writes) i ≡ Some g → AtPrepare p calls i → CanAnswer (prepares_of p.id p.now g) (reply.NotMet found) → StepsTo p calls i g (reply.NotMet found)
+not_met p calls i [] found h at gets = absurd gets
+not_met p calls i (w ∷ []) found h at gets = refuses p calls i 0 (w ∷ []) w (reply.NotMet found) found h at refl gets.1 refl (λ rest. refl) (λ z. cc)
+not_met p calls i (v ∷ w ∷ ws) found h at gets = absurd gets
+
+not_all : (p : Work) (calls : List Call) (i k : ℕ) (g : List Write) (found : Option Record) → slice_get (grouped p.writes) i ≡ Some g → AtPrepare p calls i → CanAnswer (prepares_of p.id p.now g) (reply.NotAll k found) → StepsTo p calls i g (reply.NotAll k found)
+not_all p calls i k [] found h at gets = absurd gets.1
+not_all p calls i k (w ∷ []) found h at gets = absurd gets
+not_all p calls i k (v ∷ w ∷ ws) found h at gets =
+    subst (λ o. IsSomeAnd o (λ (u : Put). IsUnmet u.condition u.rec.key found) → Goes p (calls ++ one (prepares_of p.id p.now (v ∷ w ∷ ws)) (reply.NotAll k found) ∷ []) (after_prepare p i (writes_before p i) (option_map_or (λ (u : Put). prepare.Conflict u.rec.key found) o prepare.NoMemory)))
+    (sym (slice_get-map (prepare_of p.id p.now) (v ∷ w ∷ ws) (k - 1))) (refuses_batch p calls i k v w ws found (slice_get (v ∷ w ∷ ws) (k - 1)) h at gets.0 refl) gets.1
+
+-- the writes of a group more
+with_group : (p : Work) (i : ℕ) (g : List Write) → i < groups_of p → slice_get (grouped p.writes) i ≡ Some g → writes_before p (i + 1) ≡ writes_before p i + small.puts_of (Some (prepares_of p.id p.now g))
+with_group p i g l h = sym (writes_more p i l) ∙ ap (λ o. writes_before p i + small.puts_of o) (at_prepare p i g h)
+
+prepare_goes : (p : Work) (calls : List Call) (i : ℕ) (o : Option (List Write)) (r : Reply) → slice_get (grouped p.writes) i ≡ o → AtPrepare p calls i → CanGet (option_map (prepares_of p.id p.now) o) r
+    → Goes p (with_call (option_map (prepares_of p.id p.now) o) r calls) (after_prepare p i (small.touched_after (option_map (prepares_of p.id p.now) o) (writes_before p i) r) (small.prepare_step (nat_lt (i + 1) (groups_of p)) (option_map (prepares_of p.id p.now) o) r))
 prepare_goes p calls i None r h at gets = absurd gets
-prepare_goes p calls i (Some w) reply.Applied h at gets = prepared p calls i (prepare_of p.id p.now w) (nat_lt (i + 1) (length p.writes)) at (at_prepare p i w h) refl
-prepare_goes p calls i (Some w) (reply.NotMet found) h at gets =
-    let moved : IsPrepareChanged p (one (prepare_of p.id p.now w) (reply.NotMet found)) (prepared_record w p.id p.now).key found = record { write = w; among = contains_at p.writes i w h; same = sym (prepared-key w p.id p.now); asked = refl; observed = refl; moved = gets.1 } in
-    stopped p calls i i (prepare_of p.id p.now w) (reply.NotMet found) (outcome.Conflict (prepared_record w p.id p.now).key found) at (at_prepare p i w h) tt
-    (touches_stop p calls i w (reply.NotMet found) at.whole at.within h (λ rest. refl) (λ e. cc))
-    (one (prepare_of p.id p.now w) (reply.NotMet found), Contains-push calls (one (prepare_of p.id p.now w) (reply.NotMet found)), inl moved, undecided_clear p (calls ++ one (prepare_of p.id p.now w) (reply.NotMet found) ∷ []) (clear_more p calls (prepare_of p.id p.now w) (reply.NotMet found) at.clear (no_row_prepare p i (prepare_of p.id p.now w) (at_prepare p i w h))))
-prepare_goes p calls i (Some w) reply.Fault h at gets =
-    stopped p calls i (i + 1) (prepare_of p.id p.now w) reply.Fault outcome.Faulted at (at_prepare p i w h) tt (touches_fault p calls i w at.whole at.within h) tt
-prepare_goes p calls i (Some w) reply.NoMemory h at gets =
-    stopped p calls i i (prepare_of p.id p.now w) reply.NoMemory outcome.NoMemory at (at_prepare p i w h) tt
-    (touches_stop p calls i w reply.NoMemory at.whole at.within h (λ rest. refl) (λ e. cc))
-    (starved_clear p (calls ++ one (prepare_of p.id p.now w) reply.NoMemory ∷ []) (clear_more p calls (prepare_of p.id p.now w) reply.NoMemory at.clear (no_row_prepare p i (prepare_of p.id p.now w) (at_prepare p i w h))))
-prepare_goes p calls i (Some w) (reply.Found found) h at gets = absurd gets
-prepare_goes p calls i (Some w) (reply.Rows rows) h at gets = absurd gets
+prepare_goes p calls i (Some g) reply.Applied h at gets = prepared p calls i (writes_before p i + small.puts_of (Some (prepares_of p.id p.now g))) (prepares_of p.id p.now g) (nat_lt (i + 1) (groups_of p)) at (at_prepare p i g h) refl
+prepare_goes p calls i (Some g) (reply.NotMet found) h at gets = not_met p calls i g found h at gets
+prepare_goes p calls i (Some g) reply.Fault h at gets =
+    stopped p calls i (writes_before p i + small.puts_of (Some (prepares_of p.id p.now g))) (prepares_of p.id p.now g) reply.Fault outcome.Faulted at (at_prepare p i g h) tt
+    (subst (Touches p (calls ++ one (prepares_of p.id p.now g) reply.Fault ∷ [])) (with_group p i g at.within h) (touches_fault p calls i g at.whole h)) tt
+prepare_goes p calls i (Some g) reply.NoMemory h at gets =
+    stopped p calls i (writes_before p i) (prepares_of p.id p.now g) reply.NoMemory outcome.NoMemory at (at_prepare p i g h) tt
+    (touches_stop p calls i g reply.NoMemory at.whole h (λ rest. refl) (λ e. cc))
+    (starved_clear p (calls ++ one (prepares_of p.id p.now g) reply.NoMemory ∷ []) (clear_more p calls (prepares_of p.id p.now g) reply.NoMemory at.clear (no_row_prepare p i (prepares_of p.id p.now g) (at_prepare p i g h))))
+prepare_goes p calls i (Some g) (reply.Found found) h at gets = absurd (no_found p.id p.now g found gets)
+prepare_goes p calls i (Some g) (reply.Rows rows) h at gets = absurd (no_rows p.id p.now g rows gets)
+prepare_goes p calls i (Some g) (reply.NotAll place there) h at gets = not_all p calls i place g there h at gets
 
 prepare_step : (p : Work) (calls : List Call) (i : ℕ) (r : Reply) → AtPrepare p calls i → CanGet (pending p (Preparing i)) r → Goes p (with_call (pending p (Preparing i)) r calls) (step p (Preparing i) r)
 prepare_step p calls i r at =
-    subst (λ o. CanGet o r → Goes p (with_call o r calls) (after_prepare p i (small.touched_after i r) (small.prepare_step (nat_lt (i + 1) (length p.writes)) o r)))
-    (sym (slice_get-map (prepare_of p.id p.now) p.writes i)) (prepare_goes p calls i (slice_get p.writes i) r refl at)
+    subst (λ o. CanGet o r → Goes p (with_call o r calls) (after_prepare p i (small.touched_after o (writes_before p i) r) (small.prepare_step (nat_lt (i + 1) (groups_of p)) o r)))
+    (sym (slice_get-map (prepares_of p.id p.now) (grouped p.writes) i)) (prepare_goes p calls i (slice_get (grouped p.writes) i) r refl at)
 
 ---- checks
 
@@ -132,10 +184,10 @@ check_stops : (p : Work) (calls : List Call) (i : ℕ) (k : Check) (r : Reply) (
 check_stops p calls i k r a at h lost caused =
     record {
       lost = lost;
-      prepared = writes_of p;
+      prepared = groups_of p;
       checked = i + 1;
       row = [];
-      asks = asks_check p calls (writes_of p) i k.request r at.asks (at_check p i k h);
+      asks = asks_check p calls (groups_of p) i k.request r at.asks (at_check p i k h);
       touches = touches_more p calls (writes_of p) (one k.request r) (touches_all p calls at.checked.done at.checked.whole);
       caused = caused;
     }
@@ -150,13 +202,13 @@ passes p calls i k r at h passed = record {
 judged : (p : Work) (calls : List Call) (i : ℕ) (k : Check) (r : Reply) (d : Option (Key × Option Record)) (more : Bool) → AtCheck p calls i → slice_get (checks p) i ≡ Some k → CanAnswer k.request r → is_served r ≡ true → difference_in k r ≡ d → more ≡ nat_lt (i + 1) (length (checks p))
     → Goes p (calls ++ one k.request r ∷ []) (after_check p i (small.judged more d))
 judged p calls i k r None true at h fits seen same is =
-    record { checked = passes p calls i k r at h (record { asked = refl; fits = fits; served = seen; same = same }); within = grind (arith, nat_tests); asks = asks_check p calls (writes_of p) i k.request r at.asks (at_check p i k h); clear = clear_more p calls k.request r at.clear (no_row_at p i k h) }
+    record { checked = passes p calls i k r at h (record { asked = refl; fits = fits; served = seen; same = same }); within = grind (arith, nat_tests); asks = asks_check p calls (groups_of p) i k.request r at.asks (at_check p i k h); clear = clear_more p calls k.request r at.clear (no_row_at p i k h) }
 judged p calls i k r None false at h fits seen same is =
     let l = at.within in
     let all : i + 1 ≡ reads_of p = grind (arith, nat_tests) in
     record {
       checked = subst (λ n. Checked p n (calls ++ one k.request r ∷ [])) all (passes p calls i k r at h (record { asked = refl; fits = fits; served = seen; same = same }));
-      asks = subst (λ n. AsksTo p (calls ++ one k.request r ∷ []) (writes_of p) n [] []) all (asks_check p calls (writes_of p) i k.request r at.asks (at_check p i k h));
+      asks = subst (λ n. AsksTo p (calls ++ one k.request r ∷ []) (groups_of p) n [] []) all (asks_check p calls (groups_of p) i k.request r at.asks (at_check p i k h));
       clear = clear_more p calls k.request r at.clear (no_row_at p i k h);
     }
 judged p calls i k r (Some d) more at h fits seen same is =
@@ -172,18 +224,19 @@ check_goes p calls i (Some k) reply.NoMemory h at gets =
 check_goes p calls i (Some k) reply.Applied h at gets = judged p calls i k reply.Applied (difference_in k reply.Applied) (nat_lt (i + 1) (length (checks p))) at h gets refl refl refl
 check_goes p calls i (Some k) (reply.Found found) h at gets = judged p calls i k (reply.Found found) (difference_in k (reply.Found found)) (nat_lt (i + 1) (length (checks p))) at h gets refl refl refl
 check_goes p calls i (Some k) (reply.Rows rows) h at gets = judged p calls i k (reply.Rows rows) (difference_in k (reply.Rows rows)) (nat_lt (i + 1) (length (checks p))) at h gets refl refl refl
+check_goes p calls i (Some k) (reply.NotAll place there) h at gets = judged p calls i k (reply.NotAll place there) (difference_in k (reply.NotAll place there)) (nat_lt (i + 1) (length (checks p))) at h gets refl refl refl
 check_goes p calls i (Some k) (reply.NotMet found) h at gets = judged p calls i k (reply.NotMet found) (difference_in k (reply.NotMet found)) (nat_lt (i + 1) (length (checks p))) at h gets refl refl refl
 
 ---- rolls
 
-long_forwards : (p : Work) → length (forwards p) ≡ writes_of p
-long_forwards p = length-map p.writes _
+long_forwards : (p : Work) → length (forwards p) ≡ groups_of p
+long_forwards p = length-map (grouped p.writes) _
 
-forwarding : (p : Work) (calls : List Call) (i : ℕ) → AtForward p calls (take i (forwards p)) → i ≤ writes_of p → Goes p calls (forward p i)
+forwarding : (p : Work) (calls : List Call) (i : ℕ) → AtForward p calls (take i (forwards p)) → i ≤ groups_of p → Goes p calls (forward p i)
 forwarding p calls i at l =
-    by_stage p calls (nat_lt i (length p.writes)) (Forward i) (Over outcome.Committed)
+    by_stage p calls (nat_lt i (groups_of p)) (Forward i) (Over outcome.Committed)
     (λ t. (at, grind (arith, nat_tests)))
-    (λ f. let all : i ≡ writes_of p = grind (arith, nat_tests) in
+    (λ f. let all : i ≡ groups_of p = grind (arith, nat_tests) in
     let m = long_forwards p in
     subst (AtForward p calls) (take_all i (forwards p) (omega arith)) at)
 
@@ -193,9 +246,21 @@ lost_end p calls (outcome.Unknown id) lost at = absurd lost
 lost_end p calls (outcome.BadRecord key) lost at = absurd lost
 lost_end p calls a lost at = at
 
+-- the first groups have the first writes
+take_behind : (xs ys zs : List Write) → xs ++ take (length zs) ys ≡ take (length (xs ++ zs)) (xs ++ ys)
+take_behind [] ys zs = refl
+take_behind (x ∷ xs) ys zs = ap (λ r. x ∷ r) (take_behind xs ys zs)
+
+take_groups : (gs : List (List Write)) (k : ℕ) → ungrouped (take k gs) ≡ take (length (ungrouped (take k gs))) (ungrouped gs)
+take_groups gs zero = refl
+take_groups [] (suc k) = refl
+take_groups (g ∷ gs) (suc k) = ap (λ r. g ++ r) (take_groups gs k) ∙ take_behind g (ungrouped gs) (ungrouped (take k gs))
+
 -- the roll backs of the first so many writes, where these may have accepted effect
 pub undone_is : (p : Work) (calls : List Call) (n : ℕ) → Touches p calls n → undone p calls ≡ take n (backs p)
-undone_is p calls n t = ap (map (back_of p.id)) (writes_here p calls n t) ∙ sym (take-map (back_of p.id) n p.writes)
+undone_is p calls n t =
+    ap (λ gs. map (back_of p.id) (ungrouped gs)) (groups_here p calls n t) ∙ ap (map (back_of p.id)) (take_groups (grouped p.writes) t.groups ∙ ap (λ m. take m (in_groups p.writes)) t.writes)
+    ∙ sym (take-map (back_of p.id) n (in_groups p.writes))
 
 backing : (p : Work) (calls : List Call) (a : Outcome) (n i : ℕ) → AtBack p calls a n (take i (backs p)) → i ≤ n → Goes p calls (back a n i)
 backing p calls a n i at l =
@@ -224,9 +289,9 @@ touches_led p calls l =
 backs_all : (p : Work) (calls : List Call) (d : DecidePhase) (a : DecideStep) → AtRow p calls → IsAborted p calls a → Goes p calls (after_decide p d a)
 unfolding IsAborted
 backs_all p calls d (steps.Expired id) at is =
-    backing p calls (outcome.Expired id) (length p.writes) 0 (record { lost = tt; prepared = writes_of p; checked = reads_of p; row = at.row; asks = at.asks; touches = touches_led p calls at.leads; caused = (is.0, is.1, at.leads) }) (omega arith)
+    backing p calls (outcome.Expired id) (length p.writes) 0 (record { lost = tt; prepared = groups_of p; checked = reads_of p; row = at.row; asks = at.asks; touches = touches_led p calls at.leads; caused = (is.0, is.1, at.leads) }) (omega arith)
 backs_all p calls d steps.Faulted at is =
-    backing p calls outcome.Faulted (length p.writes) 0 (record { lost = tt; prepared = writes_of p; checked = reads_of p; row = at.row; asks = at.asks; touches = touches_led p calls at.leads; caused = tt }) (omega arith)
+    backing p calls outcome.Faulted (length p.writes) 0 (record { lost = tt; prepared = groups_of p; checked = reads_of p; row = at.row; asks = at.asks; touches = touches_led p calls at.leads; caused = tt }) (omega arith)
 backs_all p calls d steps.More at is = absurd is
 backs_all p calls d steps.Committed at is = absurd is
 backs_all p calls d (steps.Unknown id) at is = absurd is
@@ -250,10 +315,10 @@ follows p calls d a (Err column) f = f.row
 follows p calls d a (Ok v) f = follows_one p calls d a v v.decision refl f
 
 put_row : (p : Work) (calls : List Call) (r : Reply) → AtPut p calls → AtRow p (calls ++ one (decide_of p.id p.now) r ∷ [])
-put_row p calls r at = record { leads = leads_all p calls (one (decide_of p.id p.now) r) at.checked; row = decide_of p.id p.now ∷ []; asks = asks_row p calls (writes_of p) (reads_of p) [] (decide_of p.id p.now) r at.asks (inl refl) }
+put_row p calls r at = record { leads = leads_all p calls (one (decide_of p.id p.now) r) at.checked; row = decide_of p.id p.now ∷ []; asks = asks_row p calls (groups_of p) (reads_of p) [] (decide_of p.id p.now) r at.asks (inl refl) }
 
 row_more : (p : Work) (calls : List Call) (q : Request) (r : Reply) → AtRow p calls → IsForRow p q → AtRow p (calls ++ one q r ∷ [])
-row_more p calls q r at is = record { leads = leads_more p calls (one q r) at.leads; row = at.row ++ q ∷ []; asks = asks_row p calls (writes_of p) (reads_of p) at.row q r at.asks is }
+row_more p calls q r at is = record { leads = leads_more p calls (one q r) at.leads; row = at.row ++ q ∷ []; asks = asks_row p calls (groups_of p) (reads_of p) at.row q r at.asks is }
 
 learned_row : (p : Work) (calls : List Call) (q : Request) (r : Reply) (at : ℤ) → IsForRow p q → ObservesRow p.id decision.Committed at r → IsLearned p (calls ++ one q r ∷ [])
 learned_row p calls q r at is observed = record { call = one q r; among = Contains-push calls (one q r); for_row = is; learned = inr (at, observed) }
@@ -291,9 +356,10 @@ decide_step p calls phase.Put reply.Fault at gets =
     (put_row p calls reply.Fault at, own_more p calls (decide_of p.id p.now) reply.Fault (own_clear p calls at.clear) (put_no_abort p))
 decide_step p calls phase.Put reply.NoMemory at gets =
     let row = put_row p calls reply.NoMemory at in
-    record { lost = tt; prepared = writes_of p; checked = reads_of p; row = row.row; asks = row.asks; touches = touches_led p (calls ++ one (decide_of p.id p.now) reply.NoMemory ∷ []) row.leads; caused = put_starved p calls at.clear }
+    record { lost = tt; prepared = groups_of p; checked = reads_of p; row = row.row; asks = row.asks; touches = touches_led p (calls ++ one (decide_of p.id p.now) reply.NoMemory ∷ []) row.leads; caused = put_starved p calls at.clear }
 decide_step p calls phase.Put (reply.Found o) at gets = absurd gets
 decide_step p calls phase.Put (reply.Rows rows) at gets = absurd gets
+decide_step p calls phase.Put (reply.NotAll place there) at gets = absurd gets
 decide_step p calls phase.Look (reply.Found (Some row)) at gets =
     found_row p calls (look_of p.id) (reply.Found (Some row)) row (row_more p calls (look_of p.id) (reply.Found (Some row)) at.0 (inr (inl refl))) (inr (inl refl)) at.1 gets (inl refl)
 decide_step p calls phase.Look (reply.Found None) at gets =
@@ -309,6 +375,7 @@ decide_step p calls phase.Abort reply.Fault at gets = row_more p calls (abort_of
 decide_step p calls phase.Abort reply.NoMemory at gets = row_more p calls (abort_of p.id p.now) reply.NoMemory at.0 (inr (inr refl))
 decide_step p calls phase.Abort (reply.Found o) at gets = absurd gets
 decide_step p calls phase.Abort (reply.Rows rows) at gets = absurd gets
+decide_step p calls phase.Abort (reply.NotAll place there) at gets = absurd gets
 decide_step p calls phase.Again (reply.Found (Some row)) at gets =
     follows p (calls ++ one (look_of p.id) (reply.Found (Some row)) ∷ []) phase.Ended steps.Faulted (decision_in row) (record {
       row = row_more p calls (look_of p.id) (reply.Found (Some row)) at (inr (inl refl));
@@ -328,7 +395,7 @@ forward_step : (p : Work) (calls : List Call) (i : ℕ) (o : Option Request) (r 
 forward_step p calls i None r h at gets = absurd gets
 forward_step p calls i (Some q) r h (at, l) gets =
     forwarding p (calls ++ one q r ∷ []) (i + 1)
-    (record { leads = leads_more p calls (one q r) at.leads; row = at.row; asks = asks_roll p calls (writes_of p) (reads_of p) at.row (forwards p) i q r at.asks h; learned = learned_more p calls (one q r) at.learned }) (omega arith)
+    (record { leads = leads_more p calls (one q r) at.leads; row = at.row; asks = asks_roll p calls (groups_of p) (reads_of p) at.row (forwards p) i q r at.asks h; learned = learned_more p calls (one q r) at.learned }) (omega arith)
 
 back_step : (p : Work) (calls : List Call) (a : Outcome) (n i : ℕ) (o : Option Request) (r : Reply) → slice_get (backs p) i ≡ o → Goes p calls (Back a n i) → CanGet o r → Goes p (with_call o r calls) (back a n (i + 1))
 back_step p calls a n i None r h at gets = absurd gets
@@ -373,6 +440,7 @@ stop_step p calls a n reply.Fault at gets = fails p calls a n reply.Fault at (in
 stop_step p calls a n reply.NoMemory at gets = fails p calls a n reply.NoMemory at (inr refl)
 stop_step p calls a n (reply.Found o) at gets = absurd gets
 stop_step p calls a n (reply.Rows rows) at gets = absurd gets
+stop_step p calls a n (reply.NotAll place there) at gets = absurd gets
 
 ---- all
 

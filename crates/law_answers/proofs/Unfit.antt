@@ -170,6 +170,7 @@ rows_inside (access.Scan span) (reply.Rows rows) can answered = each rows (and_p
 rows_inside (access.Scan span) (reply.Found found) can answered = absurd can
 rows_inside a reply.Applied can answered = absurd answered
 rows_inside a (reply.NotMet found) can answered = absurd answered
+rows_inside a (reply.NotAll place there) can answered = absurd answered
 rows_inside a reply.Fault can answered = absurd answered
 rows_inside a reply.NoMemory can answered = absurd answered
 

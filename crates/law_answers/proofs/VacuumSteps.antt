@@ -166,6 +166,7 @@ module _ (events : List Event) (calls : List StoreCall) (m : StoreCall) (older :
   answered_led ss n span (reply.Found found) e k q f can = (tt, tt)
   answered_led ss n span reply.Applied e k q f can = (tt, tt)
   answered_led ss n span (reply.NotMet found) e k q f can = (tt, tt)
+  answered_led ss n span (reply.NotAll place there) e k q f can = (tt, tt)
   answered_led ss n span reply.Fault e k q f can = (tt, faulted f)
   answered_led ss n span reply.NoMemory e k q f can = (tt, tt)
 
@@ -194,6 +195,7 @@ module _ (events : List Event) (calls : List StoreCall) (m : StoreCall) (older :
   removal_led ss n b left (reply.NotMet found) e f k q a = on_led ss n left (e ∙ count_none calls m (not_applied m (reply.NotMet found) a refl)) (found_still left f) k
   removal_led ss n b left (reply.Found found) e f k q a = (tt, tt)
   removal_led ss n b left (reply.Rows rows) e f k q a = (tt, tt)
+  removal_led ss n b left (reply.NotAll place there) e f k q a = (tt, tt)
   removal_led ss n b left reply.Fault e f k q a = (tt, faulted a)
   removal_led ss n b left reply.NoMemory e f k q a = (tt, tt)
 

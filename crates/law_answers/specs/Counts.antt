@@ -7,7 +7,7 @@ use Rattle.sdb_record.specs.Rolls.{IsWrite}
 use Rattle.sdb_model.specs.declared.answer.Answer.TheVariants as answer
 use Rattle.sdb_model.specs.Calls.{StoreCall, calls_of}
 use Rattle.sdb_model.specs.Follows.{is_open_after}
-use Rattle.sdb_model.specs.Counted.{IsReadCounted, IsVacuumCounted, is_checked_get, is_scan, is_seen, prepares_in, removals_in, unresolved_in}
+use Rattle.sdb_model.specs.Counted.{IsReadCounted, IsVacuumCounted, is_checked_get, is_scan, is_seen, prepares_in, puts_prepared, removals_in, unresolved_in}
 use Rattle.sdb_model.specs.ReadSet.{KeyRead, ReadItem, SpanRead, read_set_of}
 use Rattle.sdb_model.specs.Sql.{reads_commit, reads_vacuum}
 use Rattle.sdb_model.specs.Transactions.{Executed, begins, client_of, commit_of, ends, from_begin, id_of, rest_of, statements_by}
@@ -17,7 +17,7 @@ use Rattle.law_answers.specs.Commits.{PutsOutOfMemory}
 use Rattle.sdb_phases.specs.RecoverCalls.{calls_left}
 use Rattle.sdb_phases.specs.Checks.{checks}
 use Rattle.sdb_phases.specs.Commit.{Back, Checking, Deciding, Forward, Over, Preparing, Stage, Stopping}
-use Rattle.sdb_phases.specs.Work.{Work, prepares}
+use Rattle.sdb_phases.specs.Work.{Work, groups_of, prepares}
 use Rattle.sdb_txn.specs.Read.{Asking, Ended, ReadStage, Resolving}
 use Rattle.sdb_snapshot.specs.Seen.{Seen}
 use Rattle.sdb_txn.specs.declared.txn.Doing.TheVariants as doing
@@ -65,22 +65,31 @@ pub record ReadItemsAre (read_set : List ReadItem) (rs : List Read) (xs : List S
   pub reads : keys_got read_set ≡ map (λ r. r.key) rs
   pub scans : count_by is_scan read_set ≡ length xs
 
--- What its calls are to come to, but for the call that decides, by what its transaction has read: two for each key that was prepared,
--- one for each get of the read set of another key, and one for each scan of the read set.
+-- The checks that it is to make by what its transaction has read: one for each get of the read set of a key that isn't prepared, and one
+-- for each scan of the read set.
+abbrev pub checks_by : List ReadItem → TxId → List StoreCall → ℕ
+checks_by read_set id calls = count_by (is_checked_get (prepares_in id calls)) read_set + count_by is_scan read_set
+
+-- What its calls are to come to, but for the call that decides, where none faulted: two for each group that was prepared, and the checks.
 abbrev pub wanted_by : List ReadItem → TxId → List StoreCall → ℕ
-wanted_by read_set id calls = 2 * length (prepares_in id calls) + (count_by (is_checked_get (prepares_in id calls)) read_set + count_by is_scan read_set)
+wanted_by read_set id calls = 2 * length (prepares_in id calls) + checks_by read_set id calls
+
+-- What they come to at most, but for four: one for each prepare, one for each record that was prepared, and the checks.
+abbrev pub allowed_by : List ReadItem → TxId → List StoreCall → ℕ
+allowed_by read_set id calls = length (prepares_in id calls) + (puts_prepared id calls + checks_by read_set id calls)
 
 abbrev pub NoneFaulted : List StoreCall → Type 0
 NoneFaulted calls = AllByRecursion (λ m. is_fault m.reply ≡ false) calls
 
--- One that was answered Committed, none of whose calls faulted, made one call more than that, and any other at most four more. One that
+-- One that was answered Committed, none of whose calls faulted, made one call more than it is to make, and any other at most four more than
+-- it is to make at most. One that
 -- is answered that it was out of memory put its row COMMITTED only where that put was out of memory.
 pub record CommitIsCounted (read_set : List ReadItem) (id : TxId) (given : Option Answer) (calls : List StoreCall) : Type 0 where
   pub exact : given ≡ Some answer.Committed → NoneFaulted calls → length calls ≡ wanted_by read_set id calls + 1
-  pub most : length calls ≤ wanted_by read_set id calls + 4
+  pub most : length calls ≤ allowed_by read_set id calls + 4
   pub starved : given ≡ Some answer.NoMemory → PutsOutOfMemory id calls
 
--- so many of the writes were prepared, from the first
+-- so many of the groups were prepared, from the first
 abbrev pub HasPut : Work → ℕ → List StoreCall → Type 0
 HasPut p i calls = map (λ m. m.request) (prepares_in p.id calls) ≡ take i (prepares p)
 
@@ -88,9 +97,9 @@ HasPut p i calls = map (λ m. m.request) (prepares_in p.id calls) ≡ take i (pr
 abbrev pub AllPut : Work → List StoreCall → Type 0
 AllPut p calls = map (λ m. m.request) (prepares_in p.id calls) ≡ prepares p
 
--- a prepare for each write, each check, and so many calls more
+-- a prepare for each group, each check, and so many calls more
 abbrev pub later_by : Work → ℕ → ℕ
-later_by p n = length p.writes + length (checks p) + n
+later_by p n = groups_of p + length (checks p) + n
 
 -- how many calls of the decision were made
 abbrev pub decides : DecidePhase → ℕ
@@ -103,12 +112,12 @@ decides decide.Ended = 0
 -- How many calls it has made, by where it is.
 abbrev pub CommitCounted : List ReadItem → Work → List StoreCall → Stage → Type 0
 CommitCounted read_set p calls (Preparing i) = (length calls ≡ i) × (length (prepares_in p.id calls) ≡ i) × HasPut p i calls
-CommitCounted read_set p calls (Checking i) = AllPut p calls × (i < length (checks p)) × (length calls ≡ length p.writes + i)
+CommitCounted read_set p calls (Checking i) = AllPut p calls × (i < length (checks p)) × (length calls ≡ groups_of p + i)
 CommitCounted read_set p calls (Deciding d) = AllPut p calls × (length calls ≡ later_by p (decides d)) × (NoneFaulted calls → decides d ≡ 0)
-CommitCounted read_set p calls (Forward i) = AllPut p calls × (i < length p.writes) × (length calls ≤ later_by p 4 + i) × (NoneFaulted calls → length calls ≡ later_by p 1 + i)
-CommitCounted read_set p calls (Stopping a n) = (a ≢ outcome.Committed) × (length calls + (1 + n) ≤ wanted_by read_set p.id calls + 4)
-CommitCounted read_set p calls (Back a n i) = (i < n) × (a ≢ outcome.Committed) × (length calls + n ≤ wanted_by read_set p.id calls + 4 + i)
-CommitCounted read_set p calls (Over a) = (length calls ≤ wanted_by read_set p.id calls + 4) × (a ≡ outcome.Committed → NoneFaulted calls → length calls ≡ wanted_by read_set p.id calls + 1)
+CommitCounted read_set p calls (Forward i) = AllPut p calls × (i < groups_of p) × (length calls ≤ later_by p 4 + i) × (NoneFaulted calls → length calls ≡ later_by p 1 + i)
+CommitCounted read_set p calls (Stopping a n) = (a ≢ outcome.Committed) × (length calls + (1 + n) ≤ allowed_by read_set p.id calls + 4)
+CommitCounted read_set p calls (Back a n i) = (i < n) × (a ≢ outcome.Committed) × (length calls + n ≤ allowed_by read_set p.id calls + 4 + i)
+CommitCounted read_set p calls (Over a) = (length calls ≤ allowed_by read_set p.id calls + 4) × (a ≡ outcome.Committed → NoneFaulted calls → length calls ≡ wanted_by read_set p.id calls + 1)
 
 ---- statements
 

@@ -9,12 +9,13 @@ use Rattle.sdb_record.specs.declared.coordinator.Decision.TheVariants as decisio
 use Rattle.sdb_record.specs.Coordinator.{coordinator_key_of, decision_in}
 use Rattle.sdb_record.specs.Moved.{IsChanged, version_of, same_version}
 use Rattle.sdb_record.specs.Among.{is_written, version_among}
+use Rattle.sdb_record.specs.Groups.{grouped}
 use Rattle.sdb_validate.specs.Rescan.{base_in, reads_rise}
 use Rattle.sdb_phases.specs.declared.step.Outcome.TheVariants as outcome
-use Rattle.sdb_phases.specs.Work.{Work, prepares, prepare_of, decide_of, abort_of}
+use Rattle.sdb_phases.specs.Work.{Work, groups_of, prepares, prepares_of, decide_of, abort_of}
 use Rattle.sdb_phases.specs.Checks.{checks, difference_in}
 use Rattle.sdb_phases.specs.Commit.{Stage, Preparing, Checking, Deciding, Forward, Over}
-use Rattle.sdb_phases.specs.CommitLaws.{writes_of, reads_of}
+use Rattle.sdb_phases.specs.CommitLaws.{reads_of}
 use Rattle.law_answers.specs.Paths.{Call, Asks, IsForRow, Makes, undone}
 
 ---- rolls
@@ -27,19 +28,27 @@ pub record IsAbortFailed (p : Work) (calls : List Call) : Type 0 where
   pub asked : put.request ≡ abort_of p.id p.now
   pub failed : (put.reply ≡ reply.Fault) ⊎ (put.reply ≡ reply.NoMemory)
 
--- Each write that may have accepted effect is rolled back, in order, and no other; or none is, since the put of ABORTED failed.
+-- Each write of the groups that may have accepted effect is rolled back, in order, and no other; or none is, since the put of ABORTED failed.
 abbrev pub IsUndone : Work → List Call → Type 0
 IsUndone p calls = Asks p calls (undone p calls) ⊎ (IsAbortFailed p calls × Asks p calls [])
 
 ---- conflicts
 
--- the prepare of a write of the key was not met: what is there is no longer its base
+-- The reply where the put of that place, from 0, of a group was not met: a group of one is put alone, and a larger one all at once.
+abbrev pub unmet_reply : List Write → ℕ → Option Record → Reply
+unmet_reply (w ∷ []) i found = reply.NotMet found
+unmet_reply g i found = reply.NotAll (i + 1) found
+
+-- the prepare of a group was not met at a write of the key: what is there is no longer its base
 pub record IsPrepareChanged (p : Work) (c : Call) (key : Key) (found : Option Record) : Type 0 where
+  pub group : List Write
+  pub among : Contains (grouped p.writes) group
+  pub place : ℕ
   pub write : Write
-  pub among : Contains p.writes write
+  pub there : slice_get group place ≡ Some write
   pub same : write.key ≡ key
-  pub asked : c.request ≡ prepare_of p.id p.now write
-  pub observed : c.reply ≡ reply.NotMet found
+  pub asked : c.request ≡ prepares_of p.id p.now group
+  pub observed : c.reply ≡ unmet_reply group place found
   pub moved : IsChanged found (version_of write.base)
 
 -- the get of a key that was read, and isn't written, found another version
@@ -111,7 +120,7 @@ IsUndecided p calls = AllByRecursion (λ c. c.request ≢ decide_of p.id p.now) 
 
 ---- what was applied and passed
 
--- the call in that place is the prepare of that write, and was applied
+-- the call in that place is the prepare of that group, and was applied
 abbrev pub IsApplied : Work → List Call → ℕ → Type 0
 IsApplied p calls i = (q : Request) → slice_get (prepares p) i ≡ Some q → slice_get calls i ≡ Some (record { request = q; reply = reply.Applied })
 
@@ -130,7 +139,7 @@ pub record IsPassed (k : Check) (c : Call) : Type 0 where
 
 -- the call in its place after the prepares is that check, and passed
 abbrev pub HasPassed : Work → List Call → ℕ → Type 0
-HasPassed p calls i = (k : Check) → slice_get (checks p) i ≡ Some k → (c : Call) × (slice_get calls (writes_of p + i) ≡ Some c) × IsPassed k c
+HasPassed p calls i = (k : Check) → slice_get (checks p) i ≡ Some k → (c : Call) × (slice_get calls (groups_of p + i) ≡ Some c) × IsPassed k c
 
 -- Every prepare was applied, and every check has passed.
 pub record IsReady (p : Work) (calls : List Call) : Type 0 where
@@ -168,10 +177,11 @@ has_committed s = false
 
 -- how many calls it makes before its deciding put
 abbrev pub calls_before : Work → ℕ
-calls_before p = writes_of p + reads_of p
+calls_before p = groups_of p + reads_of p
 
 abbrev pub is_unmet : Reply → Bool
 is_unmet (reply.NotMet found) = true
+is_unmet (reply.NotAll place found) = true
 is_unmet r = false
 
 -- No prepare, no check and no deciding put faulted, was out of memory or not met, and each check found what it is to find.
@@ -179,7 +189,7 @@ is_unmet r = false
 pub record HasNoFailure (p : Work) (calls : List Call) : Type 0 where
   pub served : (i : ℕ) (c : Call) → slice_get calls i ≡ Some c → i ≤ calls_before p → is_served c.reply ≡ true
   pub met : (i : ℕ) (c : Call) → slice_get calls i ≡ Some c → i ≤ calls_before p → is_unmet c.reply ≡ false
-  pub same : (i : ℕ) (k : Check) (c : Call) → slice_get (checks p) i ≡ Some k → slice_get calls (writes_of p + i) ≡ Some c → difference_in k c.reply ≡ None
+  pub same : (i : ℕ) (k : Check) (c : Call) → slice_get (checks p) i ≡ Some k → slice_get calls (groups_of p + i) ≡ Some c → difference_in k c.reply ≡ None
 
 -- A COMMIT makes these calls, all of them well, and is then at that stage.
 pub record MakesWell (p : Work) (calls : List Call) (s : Stage) : Type 0 where

@@ -3,7 +3,8 @@ use Rattle.std.specs.Prelude.{◌≡◌, ◌⊎◌, ℕ, ℤ, Bool, true, false,
 use Rattle.std.specs.List.{AllByRecursion, list_any}
 use Rattle.law_answers.specs.Types.{Decision, Outcome, Reply, Request, TxId, Write}
 use Rattle.sdb_types.specs.declared.record.Reply.TheVariants as reply
-use Rattle.sdb_phases.specs.Work.{Work, prepares, prepare_of, back_of, decide_of, abort_of, look_of}
+use Rattle.sdb_record.specs.Groups.{grouped, ungrouped}
+use Rattle.sdb_phases.specs.Work.{Work, prepares, prepares_of, back_of, decide_of, abort_of, look_of}
 use Rattle.sdb_phases.specs.Checks.{checks}
 use Rattle.sdb_phases.specs.Commit.{Stage, Over, pending, after}
 use Rattle.sdb_phases.specs.CommitLaws.{AreReplies, observes_decision}
@@ -74,27 +75,27 @@ pub record Asks (p : Work) (calls : List Call) (rolls : List Request) : Type 0 w
 
 ---- what may have accepted effect
 
-abbrev pub touched_by : Write → Reply → List Write → List Write
-touched_by w reply.Applied rest = w ∷ rest
-touched_by w reply.Fault rest = w ∷ []
-touched_by w r rest = []
+abbrev pub touched_by : List Write → Reply → List (List Write) → List (List Write)
+touched_by g reply.Applied rest = g ∷ rest
+touched_by g reply.Fault rest = g ∷ []
+touched_by g r rest = []
 
--- The writes that may have accepted effect: those whose prepare was answered that it is applied, or a fault. The prepares are
--- the first calls, one for each write, up to the first that isn't applied.
-abbrev pub touched : List Write → List Call → List Write
+-- The groups that may have accepted effect: those whose prepare was answered that it is applied, or a fault. The prepares are
+-- the first calls, one for each group, up to the first that isn't applied.
+abbrev pub touched : List (List Write) → List Call → List (List Write)
 touched [] calls = []
-touched (w ∷ ws) [] = []
-touched (w ∷ ws) (c ∷ calls) = touched_by w c.reply (touched ws calls)
+touched (g ∷ gs) [] = []
+touched (g ∷ gs) (c ∷ calls) = touched_by g c.reply (touched gs calls)
 
--- the roll back of each of them
+-- the roll back of each of their writes
 abbrev pub undone : Work → List Call → List Request
-undone p calls = map (back_of p.id) (touched p.writes calls)
+undone p calls = map (back_of p.id) (ungrouped (touched (grouped p.writes) calls))
 
 -- The first calls are the prepares, in order, each after the one before was applied.
-abbrev pub BeginsSo : TxId → ℤ → List Write → List Call → Type 0
+abbrev pub BeginsSo : TxId → ℤ → List (List Write) → List Call → Type 0
 BeginsSo id now [] calls = Unit {0}
-BeginsSo id now (w ∷ ws) [] = Unit {0}
-BeginsSo id now (w ∷ ws) (c ∷ calls) = (c.request ≡ prepare_of id now w) × (c.reply ≡ reply.Applied → BeginsSo id now ws calls)
+BeginsSo id now (g ∷ gs) [] = Unit {0}
+BeginsSo id now (g ∷ gs) (c ∷ calls) = (c.request ≡ prepares_of id now g) × (c.reply ≡ reply.Applied → BeginsSo id now gs calls)
 
 abbrev pub Begins : Work → List Call → Type 0
-Begins p calls = BeginsSo p.id p.now p.writes calls
+Begins p calls = BeginsSo p.id p.now (grouped p.writes) calls

@@ -19,8 +19,8 @@ pub fn made()
     ensures asks { (p : Work) (calls : List Call) (s : Stage) → Makes p calls s → is_over s ≡ false → is_some (pending p s) ≡ true }
 {}
 
-/// The calls hold the replies, each in its turn, and each reply is one that its call can get. The first calls are the
-/// prepares, each after the one before was applied. What was learned of the row is what they say.
+/// The calls hold the replies, each in its turn, and each reply is one that its call can get. The first calls are the prepares
+/// of the groups, each after the one before was applied. What was learned of the row is what they say.
 pub fn path()
     ensures replies { (p : Work) (past : List Reply) → AreReplies p past → replies_of (calls_of_path p past) ≡ reverse past }
     ensures fits { (p : Work) (calls : List Call) (s : Stage) → Makes p calls s → AllByRecursion (λ c. CanAnswer c.request c.reply) calls }
@@ -29,10 +29,10 @@ pub fn path()
     ensures aborted { (p : Work) (past : List Reply) → AreReplies p past → (seen p past).aborted ≡ was_observed p decision.Aborted (calls_of_path p past) }
 {}
 
-/// A COMMIT that is answered Committed rolls each write forward, once and in order, and none back. One that is answered
-/// Conflict, Expired, Faulted or NoMemory rolls back, once and in order, each write whose prepare was applied or faulted, and
-/// no other, or none where its newest call, the put of ABORTED, failed; it rolls none forward. With any other answer it rolls
-/// nothing.
+/// A COMMIT that is answered Committed rolls each group of its writes forward, once and in order, and none back. One that is
+/// answered Conflict, Expired, Faulted or NoMemory rolls back, once and in the order of the groups, each write of a group whose
+/// prepare was applied or faulted, and no other, or none where its newest call, the put of ABORTED, failed; it rolls none
+/// forward. With any other answer it rolls nothing.
 pub fn rolls()
     ensures committed { (p : Work) (calls : List Call) → EndsIn p calls outcome.Committed → Asks p calls (forwards p) }
     ensures lost { (p : Work) (calls : List Call) (a : Outcome) → IsLost a → EndsIn p calls a → IsUndone p calls }
@@ -47,8 +47,8 @@ pub fn rolling()
     ensures next { (p : Work) (calls : List Call) (a : Outcome) (n i : ℕ) → Makes p calls (Back a n i) → pending p (Back a n i) ≡ slice_get (undone p calls) i }
 {}
 
-/// A conflict is observed in the reply to a prepare or a check of its key, which isn't what was read there, and the deciding put
-/// was not asked. Expired is answered only where a call for the row observed ABORTED and none before had put that. Out of
+/// A conflict is observed in the reply to the prepare of a group with its key, or to a check of its key, and isn't what was read
+/// there, and the deciding put was not asked. Expired is answered only where a call for the row observed ABORTED and none before had put that. Out of
 /// memory ends a COMMIT that asked for its deciding put only where that put was out of memory.
 pub fn causes()
     ensures conflict { (p : Work) (calls : List Call) (key : Key) (found : Option Record) → EndsIn p calls (outcome.Conflict key found) → HasChangedBy p calls key found }

@@ -13,7 +13,7 @@ use Rattle.law_protocol.specs.History.{at}
 use Rattle.sdb_sqltext.proofs.Public.{begin_read, commit_read, not_both, one_statement, rollback_read}
 use Rattle.sdb_record.specs.declared.access.Access.TheVariants as access
 use Rattle.sdb_record.specs.Meta.{is_moment}
-use Rattle.sdb_phases.specs.Work.{Work}
+use Rattle.sdb_phases.specs.Work.{Work, groups_of}
 use Rattle.sdb_phases.specs.Checks.{checks}
 use Rattle.sdb_phases.specs.Commit.{Preparing, Checking, Deciding}
 use Rattle.sdb_phases.specs.declared.step.DecidePhase.TheVariants.{Put}
@@ -181,7 +181,7 @@ module _ (catalog : List Table) (fit : List Table → Tables → Bool) (events :
       let e : List Event = events ++ event.Take c text None ∷ [] in
       let accepted = going_commits catalog fit events (system_of states) (doing_of states) g c text t.id t.seen moment (at_open catalog fit events states g c ready t some) (record { reads = reads; moment = is }) in
       moved catalog fit states c (holding now (committing t moment)) e ready.idle.free refl
-      (subst (λ (x : ClientAt). RunInvariant catalog fit e (with_client (system_of states) c x) (at (doing_of states) c None)) (going_stages p (nat_lt 0 (length p.writes)) (nat_lt 0 (length (checks p)))) accepted)
+      (subst (λ (x : ClientAt). RunInvariant catalog fit e (with_client (system_of states) c x) (at (doing_of states) c None)) (going_stages p (nat_lt 0 (groups_of p)) (nat_lt 0 (length (checks p)))) accepted)
 
   -- a VACUUM begins with its first table
   pub told_vacuum : (gate : Gate) (text : List ℕ) (t : Table) (ts : List Table) → IsGated gate states c → gate.open_elsewhere ≡ false → now.txn ≡ None → IsOfData (access.Scan (whole t)) → IsSo catalog fit states c (record now { vacuum = Some (begun (t ∷ ts)) }) (events ++ event.Take c text None ∷ [])

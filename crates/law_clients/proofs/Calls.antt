@@ -238,6 +238,7 @@ scanned_ok past c span store how reply.Fault answered tables can = tt
 scanned_ok past c span store how reply.NoMemory answered tables can = tt
 scanned_ok past c span store how reply.Applied answered tables can = tt
 scanned_ok past c span store how (reply.NotMet found) answered tables can = tt
+scanned_ok past c span store how (reply.NotAll place there) answered tables can = tt
 scanned_ok past c span store how (reply.Found found) answered tables can = tt
 scanned_ok past c span store how (reply.Rows rows) answered tables can =
     let up = rise_is rows (and_first (rise rows) (list_all (λ r. in_span span r.key) rows) can) in
@@ -274,6 +275,7 @@ removed_ok past q left reply.Fault l = tt
 removed_ok past q left reply.NoMemory l = tt
 removed_ok past q left (reply.Found found) l = tt
 removed_ok past q left (reply.Rows rows) l = tt
+removed_ok past q left (reply.NotAll place there) l = tt
 
 sweep_kept : (past : List Labelled) (c : ℕ) (v : VacuumModel) (now : ℤ) (store : Name) (q : Request) (how : How) (r : Reply) (answered : Option Answer) → VacuumModelOk past v → vacuum_call v ≡ Some q → CanAnswer q r → is_moment now ≡ true
     → VacuumModelOk (labelled_with (vacuum_action v r) (event.Call c store q how r answered) ∷ past) (vacuum_model_step v now r)

@@ -13,7 +13,7 @@ use Rattle.law_protocol.specs.Explained.{events_of, newest_first}
 use Rattle.law_protocol.specs.Plan.{Plan}
 use Rattle.law_protocol.specs.History as laws
 use Rattle.law_protocol.specs.History.{Ack, Action, Yes, No, NoAck, OutOfMemory, ProtocolState, is_yes, state_after_event}
-use Rattle.law_protocol.specs.Lawful.{IsLawful, Labelled, MayOccur, MayPrepare, OfOneKey, ended, protocol_state}
+use Rattle.law_protocol.specs.Lawful.{IsLawful, Labelled, MayOccur, ended, protocol_state}
 use Rattle.law_protocol.proofs.Public.{occurs_by}
 use Rattle.law_clients.specs.Catalogs.{AreAtRest, IsAtRest, catalog_at_begin, catalog_at_point, catalog_now, catalog_upto}
 use Rattle.law_clients.specs.System.{IsBy}
@@ -313,14 +313,9 @@ take_goes plan past e t l m = elim (occurs_by plan past e (laws.Takes t) m) [
 
 prepare_goes : (plan : ℕ → Plan) (past : List Labelled) (e : Event) (t : ℕ) (ks : List Key) → IsLawful plan past → MayOccur plan past e (laws.Prepares t ks Yes) → IsGoing past e t
 prepare_goes plan past e t ks l m = elim (occurs_by plan past e (laws.Prepares t ks Yes) m) [
-  | inl k ↦ one ks k
+  | inl k ↦ record { is_open = k.within.is_open; going = ap (protocol_state past).stopped k.within.owner ∙ k.within.goes_on; adds = λ ts. ap (added ts) k.call.call }
   | inr d ↦ absurd (cc ((delayed_unanswered plan past d.request (laws.Prepares t ks Yes) l d.was).2))
 ]
-  where
-    one : (ks : List Key) → OfOneKey ks (λ k. MayPrepare plan past e t k Yes) → IsGoing past e t
-    one [] p = absurd p
-    one (k ∷ []) p = record { is_open = p.within.is_open; going = ap (protocol_state past).stopped p.within.owner ∙ p.within.goes_on; adds = λ ts. ap (added ts) p.call.call }
-    one (k ∷ j ∷ js) p = absurd p
 
 -- a transaction that is open, or whose COMMIT was accepted, has begun
 record HasBegun (h : ProtocolState) (t : ℕ) : Type 0 where

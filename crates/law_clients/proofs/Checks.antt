@@ -31,6 +31,7 @@ rows_read : (r : Reply) (rows : List Record) → rows_of r ≡ Some rows → rec
 rows_read (reply.Found None) rows e = cc
 rows_read (reply.Found (Some x)) rows e = cc
 rows_read (reply.Rows xs) rows e = cc
+rows_read (reply.NotAll place there) rows e = absurd (cc)
 rows_read reply.Applied rows e = absurd (cc)
 rows_read (reply.NotMet found) rows e = absurd (cc)
 rows_read reply.Fault rows e = absurd (cc)

@@ -2,13 +2,13 @@
 use Rattle.std.proofs.Common.{◌≡◌, ◌≢◌, ◌+◌, ℕ, ℤ, Bool, true, false, List, ◌∷◌, length, Option, Some, None, refl, sym, ap, subst, ◌∙◌, arith, ◌⊎◌, inl, inr}
 use Rattle.std.specs.Prelude.{slice_get, nat_lt, if◌then◌else◌}
 use Rattle.std.specs.Option.{option_map}
-use Rattle.std.proofs.lemmas.Option.{slice_get-map, slice_get_within}
+use Rattle.std.proofs.lemmas.Option.{slice_get-map}
 use Rattle.std.proofs.lemmas.Bool.Decides.{nat_tests}
 use Rattle.law_clients.specs.Types.{Answer, Check, Event, How, Key, Outcome, Record, Reply, Request, Write}
 use Rattle.sdb_types.specs.declared.record.Reply.TheVariants as reply
 use Rattle.sdb_types.specs.declared.record.Request.TheVariants as ask
 use Rattle.sdb_types.specs.Contents.{CanAnswer}
-use Rattle.sdb_record.specs.declared.coordinator.Decision.TheVariants as decision
+use Rattle.sdb_record.specs.Groups.{grouped, in_groups, keys_of_writes}
 use Rattle.sdb_model.specs.declared.answer.Answer.TheVariants as answer
 use Rattle.sdb_model.specs.declared.event.Event.TheVariants as event
 use Rattle.sdb_model.specs.Rows.{Name}
@@ -19,12 +19,12 @@ use Rattle.law_protocol.specs.Lawful.{Labelled, protocol_state, ack_of, is_quiet
 use Rattle.sdb_phases.specs.declared.step.Outcome.TheVariants as outcome
 use Rattle.sdb_phases.specs.declared.step.ValidateStep.TheVariants as validate
 use Rattle.sdb_phases.specs.declared.step.DecidePhase.TheVariants as phase
-use Rattle.sdb_phases.specs.Work.{Work, prepare_of, forward_of, back_of, decide_of, abort_of, look_of}
+use Rattle.sdb_phases.specs.Work.{Work, prepares_of, forwards_of, back_of, decide_of, abort_of, look_of}
 use Rattle.sdb_phases.specs.Checks.{checks, difference_in}
 use Rattle.sdb_phases.specs.Steps.{validate_step, judged}
 use Rattle.sdb_phases.specs.Commit.{Stage, Preparing, Checking, Deciding, Forward, Stopping, Back, Over, pending, step, after_check, out_of_memory, out_of_memory_answer}
 use Rattle.sdb_phases.specs.CommitLaws.{as_wished, is_more, IsLost}
-use Rattle.law_clients.specs.Owner.{CommitOk, StageOk, OverOk, IsReading, action_of, prepare_action, roll_action}
+use Rattle.law_clients.specs.Owner.{CommitOk, StageOk, OverOk, IsReading, action_of, prepare_action, forward_action, back_action}
 use Rattle.law_clients.specs.System.{ClientAt, Committing, ClientOk, Has, is_in_vacuum, SystemAt, SystemOk, answer_at, ending_at, commit_left, commit_labelled, with_client, ClientCall, call_event, IsReplyTo, IsInState}
 use Rattle.sdb_client.specs.Step.{answer_of_outcome}
 use Rattle.law_clients.proofs.Own.{prepare_lawful, check_lawful, decide_lawful, abort_lawful, forward_lawful, back_lawful}
@@ -34,22 +34,24 @@ use Rattle.sdb_types.proofs.Public.{none_some as some_none, some_is}
 
 ---- it may play its part
 
-at_write : (plan : ℕ → Plan) (past : List Labelled) (p : Work) (f : Write → Request) (q : Request) (i : ℕ) (P : Option Write → Request → Type 0) → ((w : Write) → slice_get p.writes i ≡ Some w → P (Some w) (f w)) → option_map f (slice_get p.writes i) ≡ Some q → P (slice_get p.writes i) q
-at_write plan past p f q i P each e = by (slice_get p.writes i) refl e
+-- over what is at a place, if it is asked
+at_place : {A : Type 0} (xs : List A) (f : A → Request) (q : Request) (i : ℕ) (P : Option A → Request → Type 0) → ((x : A) → slice_get xs i ≡ Some x → P (Some x) (f x)) → option_map f (slice_get xs i) ≡ Some q → P (slice_get xs i) q
+at_place {A = A} xs f q i P each e = by (slice_get xs i) refl e
   where
-    by : (o : Option Write) → slice_get p.writes i ≡ o → option_map f o ≡ Some q → P o q
+    by : (o : Option A) → slice_get xs i ≡ o → option_map f o ≡ Some q → P o q
     by None h e = some_none q e
-    by (Some w) h e = subst (P (Some w)) (some_is (f w) q e) (each w h)
+    by (Some x) h e = subst (P (Some x)) (some_is (f x) q e) (each x h)
 
 quiet : (e : Request) (c : ℕ) (store : Name) (how : How) (r : Reply) (a : Option Answer) → IsReading e → is_quiet (event.Call c store e how r a) ≡ true
 quiet (ask.Get key) c store how r a h = refl
 quiet (ask.Scan span) c store how r a h = refl
 quiet (ask.PutIf rec condition) c store how r a h = absurd h
 quiet (ask.DeleteIf key condition) c store how r a h = absurd h
+quiet (ask.PutAll batch) c store how r a h = absurd h
 
 pub own_play : (plan : ℕ → Plan) (past : List Labelled) (c : ℕ) (p : Work) (s : Stage) (store : Name) (q : Request) (how : How) (r : Reply) (a : Option Answer) → CommitOk plan past c p s → pending p s ≡ Some q → CanAnswer q r → IsEnabled plan past (event.Call c store q how r a) (action_of p s r)
 own_play plan past c p (Preparing i) store q how r a ok e can =
-    at_write plan past p (prepare_of p.id p.now) q i (λ o x. IsEnabled plan past (event.Call c store x how r a) (prepare_action p.id.0 o r)) (λ w here. prepare_lawful plan past c i p w store how r a ok here) (sym (slice_get-map (prepare_of p.id p.now) p.writes i) ∙ e)
+    at_place (grouped p.writes) (prepares_of p.id p.now) q i (λ o x. IsEnabled plan past (event.Call c store x how r a) (prepare_action p.id.0 o r)) (λ g here. prepare_lawful plan past c i p g store how r a ok here) (sym (slice_get-map (prepares_of p.id p.now) (grouped p.writes) i) ∙ e)
 own_play plan past c p (Checking i) store q how r a ok e can = by (slice_get (checks p) i) refl e
   where
     on : (k : Check) (b : Bool) → slice_get (checks p) i ≡ Some k → CanAnswer k.request r → as_wished p (Checking i) r ≡ b → IsEnabled plan past (event.Call c store k.request how r a) (if b then Checks p.id.0 i else Other)
@@ -65,10 +67,10 @@ own_play plan past c p (Deciding phase.Abort) store q how r a ok e can = subst (
 own_play plan past c p (Deciding phase.Again) store q how r a ok e can = subst (λ x. is_quiet (event.Call c store x how r a) ≡ true) (some_is (look_of p.id) q e) refl
 own_play plan past c p (Deciding phase.Ended) store q how r a ok e can = some_none q e
 own_play plan past c p (Forward i) store q how r a ok e can =
-    at_write plan past p (forward_of p.id p.now) q i (λ o x. IsEnabled plan past (event.Call c store x how r a) (roll_action p.id.0 decision.Committed o)) (λ w here. forward_lawful plan past c i p w store how r a ok (slice_get_within p.writes i w here) here) (sym (slice_get-map (forward_of p.id p.now) p.writes i) ∙ e)
+    at_place (grouped p.writes) (forwards_of p.id p.now) q i (λ o x. IsEnabled plan past (event.Call c store x how r a) (forward_action p.id.0 o)) (λ g here. forward_lawful plan past c i p g store how r a ok here) (sym (slice_get-map (forwards_of p.id p.now) (grouped p.writes) i) ∙ e)
 own_play plan past c p (Stopping b n) store q how r a ok e can = subst (λ x. IsEnabled plan past (event.Call c store x how r a) (Aborts p.id.0 p.now (ack_of r))) (some_is (abort_of p.id p.now) q e) (abort_lawful plan past c p (Stopping b n) store how r a ok)
 own_play plan past c p (Back b n i) store q how r a ok e can =
-    at_write plan past p (back_of p.id) q i (λ o x. IsEnabled plan past (event.Call c store x how r a) (roll_action p.id.0 decision.Aborted o)) (λ w here. back_lawful plan past c i n b p w store how r a ok ok.stage.3 here) (sym (slice_get-map (back_of p.id) p.writes i) ∙ e)
+    at_place (in_groups p.writes) (back_of p.id) q i (λ o x. IsEnabled plan past (event.Call c store x how r a) (back_action p.id.0 o)) (λ w here. back_lawful plan past c i n b p w store how r a ok ok.stage.3 here) (sym (slice_get-map (back_of p.id) (in_groups p.writes) i) ∙ e)
 own_play plan past c p (Over b) store q how r a ok e can = some_none q e
 
 ---- it goes on knowing what it needs
@@ -93,18 +95,12 @@ checks_kept plan past c i p e r k ok here can = subst (λ o. StageOk plan (label
     by (reply.NotMet found) at = on (reply.NotMet found) at refl (difference_in k (reply.NotMet found)) refl
     by (reply.Found found) at = on (reply.Found found) at refl (difference_in k (reply.Found found)) refl
     by (reply.Rows rows) at = on (reply.Rows rows) at refl (difference_in k (reply.Rows rows)) refl
-
--- over the write at a place
-kept_at : (plan : ℕ → Plan) (past : List Labelled) (p : Work) (e : Event) (i : ℕ) (s : Stage) (action : Option Write → Action) (f : Write → Request) (q : Request) → ((w : Write) → slice_get p.writes i ≡ Some w → StageOk plan (labelled_with (action (Some w)) e ∷ past) p s) → option_map f (slice_get p.writes i) ≡ Some q → StageOk plan (labelled_with (action (slice_get p.writes i)) e ∷ past) p s
-kept_at plan past p e i s action f q each h = by (slice_get p.writes i) refl h
-  where
-    by : (o : Option Write) → slice_get p.writes i ≡ o → option_map f o ≡ Some q → StageOk plan (labelled_with (action o) e ∷ past) p s
-    by None at h = some_none q h
-    by (Some w) at h = each w at
+    by (reply.NotAll place there) at = on (reply.NotAll place there) at refl (difference_in k (reply.NotAll place there)) refl
 
 pub own_kept : (plan : ℕ → Plan) (past : List Labelled) (c : ℕ) (p : Work) (s : Stage) (store : Name) (q : Request) (how : How) (r : Reply) (a : Option Answer) → CommitOk plan past c p s → pending p s ≡ Some q → CanAnswer q r
     → StageOk plan (labelled_with (action_of p s r) (event.Call c store q how r a) ∷ past) p (step p s r)
-own_kept plan past c p (Preparing i) store q how r a ok e can = kept_at plan past p (event.Call c store q how r a) i (step p (Preparing i) r) (λ o. prepare_action p.id.0 o r) (prepare_of p.id p.now) q (λ w here. prepare_kept plan past c i p w (event.Call c store q how r a) r ok here) (sym (slice_get-map (prepare_of p.id p.now) p.writes i) ∙ e)
+own_kept plan past c p (Preparing i) store q how r a ok e can =
+    at_place (grouped p.writes) (prepares_of p.id p.now) q i (λ o x. StageOk plan (labelled_with (prepare_action p.id.0 o r) (event.Call c store q how r a) ∷ past) p (step p (Preparing i) r)) (λ g here. prepare_kept plan past c i p g (event.Call c store q how r a) r ok here) (sym (slice_get-map (prepares_of p.id p.now) (grouped p.writes) i) ∙ e)
 own_kept plan past c p (Checking i) store q how r a ok e can = by (slice_get (checks p) i) refl e
   where
     by : (o : Option Check) → slice_get (checks p) i ≡ o → option_map (λ (x : Check). x.request) o ≡ Some q → StageOk plan (labelled_with (action_of p (Checking i) r) (event.Call c store q how r a) ∷ past) p (step p (Checking i) r)
@@ -115,9 +111,11 @@ own_kept plan past c p (Deciding phase.Look) store q how r a ok e can = subst (�
 own_kept plan past c p (Deciding phase.Abort) store q how r a ok e can = subst (λ x. CanAnswer x r → StageOk plan (labelled_with (Aborts p.id.0 p.now (ack_of r)) (event.Call c store x how r a) ∷ past) p (step p (Deciding phase.Abort) r)) (some_is (abort_of p.id p.now) q e) (abort_kept plan past c p store how r a ok) can
 own_kept plan past c p (Deciding phase.Again) store q how r a ok e can = subst (λ x. CanAnswer x r → StageOk plan (labelled_with Other (event.Call c store x how r a) ∷ past) p (step p (Deciding phase.Again) r)) (some_is (look_of p.id) q e) (again_kept plan past c p store how r a ok) can
 own_kept plan past c p (Deciding phase.Ended) store q how r a ok e can = some_none q e
-own_kept plan past c p (Forward i) store q how r a ok e can = kept_at plan past p (event.Call c store q how r a) i (step p (Forward i) r) (roll_action p.id.0 decision.Committed) (forward_of p.id p.now) q (λ w here. forward_kept plan past c i p w.key (event.Call c store q how r a) r ok) (sym (slice_get-map (forward_of p.id p.now) p.writes i) ∙ e)
+own_kept plan past c p (Forward i) store q how r a ok e can =
+    at_place (grouped p.writes) (forwards_of p.id p.now) q i (λ o x. StageOk plan (labelled_with (forward_action p.id.0 o) (event.Call c store q how r a) ∷ past) p (step p (Forward i) r)) (λ g here. forward_kept plan past c i p (keys_of_writes g) (event.Call c store q how r a) r ok) (sym (slice_get-map (forwards_of p.id p.now) (grouped p.writes) i) ∙ e)
 own_kept plan past c p (Stopping b n) store q how r a ok e can = stop_kept plan past c n b p (event.Call c store q how r a) r ok
-own_kept plan past c p (Back b n i) store q how r a ok e can = kept_at plan past p (event.Call c store q how r a) i (step p (Back b n i) r) (roll_action p.id.0 decision.Aborted) (back_of p.id) q (λ w here. back_kept plan past c i n b p w.key (event.Call c store q how r a) r ok) (sym (slice_get-map (back_of p.id) p.writes i) ∙ e)
+own_kept plan past c p (Back b n i) store q how r a ok e can =
+    at_place (in_groups p.writes) (back_of p.id) q i (λ o x. StageOk plan (labelled_with (back_action p.id.0 o) (event.Call c store q how r a) ∷ past) p (step p (Back b n i) r)) (λ w here. back_kept plan past c i n b p w.key (event.Call c store q how r a) r ok) (sym (slice_get-map (back_of p.id) (in_groups p.writes) i) ∙ e)
 own_kept plan past c p (Over b) store q how r a ok e can = some_none q e
 
 -- a call of a COMMIT begins, takes, ends and stops nothing
@@ -129,11 +127,11 @@ IsCallRole (laws.Stops c) = ⊥
 IsCallRole r = Unit {0}
 
 call_role : (p : Work) (s : Stage) (r : Reply) → IsCallRole (action_of p s r)
-call_role p (Preparing i) r = by (slice_get p.writes i)
+call_role p (Preparing i) r = by (slice_get (grouped p.writes) i)
   where
-    by : (o : Option Write) → IsCallRole (prepare_action p.id.0 o r)
+    by : (o : Option (List Write)) → IsCallRole (prepare_action p.id.0 o r)
     by None = tt
-    by (Some w) = tt
+    by (Some g) = tt
 call_role p (Checking i) r = by (as_wished p (Checking i) r)
   where
     by : (b : Bool) → IsCallRole (if b then Checks p.id.0 i else Other)
@@ -144,15 +142,15 @@ call_role p (Deciding phase.Look) r = tt
 call_role p (Deciding phase.Abort) r = tt
 call_role p (Deciding phase.Again) r = tt
 call_role p (Deciding phase.Ended) r = tt
-call_role p (Forward i) r = by (slice_get p.writes i)
+call_role p (Forward i) r = by (slice_get (grouped p.writes) i)
   where
-    by : (o : Option Write) → IsCallRole (roll_action p.id.0 decision.Committed o)
+    by : (o : Option (List Write)) → IsCallRole (forward_action p.id.0 o)
     by None = tt
-    by (Some w) = tt
+    by (Some g) = tt
 call_role p (Stopping a n) r = tt
-call_role p (Back a n i) r = by (slice_get p.writes i)
+call_role p (Back a n i) r = by (slice_get (in_groups p.writes) i)
   where
-    by : (o : Option Write) → IsCallRole (roll_action p.id.0 decision.Aborted o)
+    by : (o : Option Write) → IsCallRole (back_action p.id.0 o)
     by None = tt
     by (Some w) = tt
 call_role p (Over a) r = tt

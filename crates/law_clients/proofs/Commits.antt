@@ -3,38 +3,40 @@ use Rattle.std.proofs.Common.{◌≡◌, ◌<◌, ◌≤◌, ◌+◌, ℕ, Bool,
 use Rattle.std.specs.Prelude.{slice_get, nat_lt, IfSome, IsSomeAnd, Result, Ok, Err, if◌then◌else◌}
 use Rattle.std.specs.Option.{option_map}
 use Rattle.std.specs.Result.{result_ok}
-use Rattle.std.proofs.lemmas.Option.{slice_get-map, slice_get_within}
-use Rattle.std.proofs.lemmas.Bool.Decides.{nat_tests}
+use Rattle.std.proofs.lemmas.Option.{slice_get-map}
 use Rattle.law_clients.specs.Types.{Check, Condition, DecideStep, Decided, Decision, Key, Outcome, Record, Reply, Request, Table, Write}
 use Rattle.sdb_types.specs.declared.record.Condition.TheVariants as condition
 use Rattle.sdb_types.specs.declared.record.Request.TheVariants as ask
 use Rattle.sdb_types.specs.declared.record.Reply.TheVariants as reply
 use Rattle.sdb_types.specs.Contents.{holds}
-use Rattle.sdb_types.specs.Order.{same_key}
-use Rattle.sdb_types.proofs.Public.{none_some, same_key_decides, some_is}
+use Rattle.sdb_types.specs.Order.{are_distinct}
+use Rattle.sdb_types.proofs.Public.{none_some, some_is}
 use Rattle.sdb_record.specs.declared.coordinator.Decision.TheVariants as decision
 use Rattle.sdb_record.specs.Coordinator.{coordinator_key_of, coordinator_row_of, decision_in}
+use Rattle.sdb_record.specs.Groups.{grouped, in_groups, keys_of_writes}
 use Rattle.sdb_record.specs.Meta.{is_transactional}
 use Rattle.sdb_record.specs.Moved.{condition_of, version_of}
-use Rattle.sdb_record.specs.Rolls.{IsBaseOf, forward_record, prepared_record, undo}
-use Rattle.sdb_record.proofs.Public.{forward-key, prepared-key, row-decision, row-key}
+use Rattle.sdb_record.specs.Rolls.{IsBaseOf, prepared_record, undo}
+use Rattle.sdb_record.proofs.Public.{forward-key, groups_once, place_in_group, place_in_groups, place_of_grouped, prepared-key, row-decision, row-key}
 use Rattle.sdb_phases.specs.declared.step.Outcome.TheVariants as outcome
 use Rattle.sdb_phases.specs.declared.step.DecidePhase.TheVariants as phase
 use Rattle.sdb_phases.specs.declared.step.DecideStep.TheVariants as decide
 use Rattle.sdb_phases.specs.declared.step.PrepareStep.TheVariants as prepare
 use Rattle.sdb_phases.specs.declared.step.ValidateStep.TheVariants as validate
-use Rattle.sdb_phases.specs.Work.{Work, back_of, forward_of, prepare_of, prepares, is_as_prepared}
+use Rattle.sdb_phases.specs.Work.{Work, back_of, forward_of, forwards_of, groups_of, is_as_prepared, prepare_of, prepares, prepares_of, writes_before}
 use Rattle.sdb_phases.specs.Checks.{checks}
-use Rattle.sdb_phases.specs.Steps.{followed, prepare_step, step_of_row, touched_after, validate_step}
+use Rattle.sdb_phases.specs.Steps.{followed, prepare_step, puts_of, step_of_row, validate_step}
 use Rattle.sdb_phases.specs.Commit.{Stage, Preparing, Checking, Deciding, Forward, Stopping, Back, Over, after_check, after_prepare, back, checking, decided, forward, pending, step}
-use Rattle.law_clients.specs.Database.{Called, Done, Found, Got, Database, HasFailed, IsWith, NotFound, Same, Undone, Wrote, decided_in, is_committed_or_none}
+use Rattle.law_clients.specs.Database.{Called, Done, Found, Got, Database, HasFailed, IsWith, NotFound, Same, TookEffect, Undone, Wrote, are_met, decided_in, is_committed_or_none, with_batch}
 use Rattle.law_clients.specs.OnlyResolves.{IsApart, IsSound}
 use Rattle.law_clients.specs.Recovers.{IsAborted, IsCommittedAt, IsUndecided}
 use Rattle.law_clients.specs.Commits.{ArePrepared, CommitAlone, EachWrite, EndedAlone, IsDone, IsFailure, IsGivenUp, IsLoose, IsPrepared, IsWon, OthersUnchanged, StageAlone, WorkAlone}
 use Rattle.law_clients.proofs.Recovers.{one_database, row_at}
+use Rattle.sdb_txn.proofs.Public.{keys_differ}
+use Rattle.law_clients.proofs.Groups.{apart_from_group, keys_once, more_before, place_of, placed, side, whole, within_writes}
 use Rattle.law_clients.proofs.Lists.{each_at}
 use Rattle.law_clients.proofs.SessionChecks.{Passes, all_pass}
-use Rattle.law_clients.proofs.Writes.{each_row, each_write, once_apart, others_row, others_stay, row_is, row_stays, based_at, there, version_holds}
+use Rattle.law_clients.proofs.Writes.{all_met, based_at, each_group, each_row, each_write, group_aside, group_others, group_row, group_there, others_row, others_stay, row_is, row_stays, sent_called, version_holds}
 
 ---- what is the same as another
 
@@ -43,11 +45,10 @@ same_stage catalog start g h p s same c = subst (λ x. CommitAlone catalog start
 
 -- prepared writes, or the bases that they are over, are loose
 loose_below : (p : Work) (n : ℕ) (g : Database) → ArePrepared p n g → EachWrite p (IsLoose p) g
-loose_below p n g a j w at = by (nat_lt j n) refl
-  where
-    by : (b : Bool) → nat_lt j n ≡ b → IsLoose p w (g w.key)
-    by true e = inr (a.below j w (grind (arith, nat_tests)) at)
-    by false e = inl (a.from j w (grind (arith, nat_tests)) at)
+loose_below p n g a j w at = let place = place_in_groups p.writes j w at in elim (side n place.0) [
+  | inl less ↦ inr (a.below place.0 w less place.1)
+  | inr more ↦ inl (a.from place.0 w more place.1)
+]
 
 loose_all : (p : Work) (g : Database) → EachWrite p (IsPrepared p) g → EachWrite p (IsLoose p) g
 loose_all p g each j w at = inr (each j w at)
@@ -72,7 +73,7 @@ module _ (catalog : List Table) (apart : IsApart catalog) (start : Database) (so
       by false = (none, each)
 
   to_forward : (g : Database) → IsDone p g → (i : ℕ) → StageAlone p g (forward p i)
-  to_forward g done i = by (nat_lt i (length p.writes))
+  to_forward g done i = by (nat_lt i (groups_of p))
     where
       by : (b : Bool) → StageAlone p g (if b then Forward i else Over outcome.Committed)
       by true = done
@@ -233,91 +234,114 @@ module _ (catalog : List Table) (apart : IsApart catalog) (start : Database) (so
           base_key : (b : Record) → w.base ≡ Some b → b.key ≡ w.key
           base_key b e = let is_write = subst (λ o. IfSome o (IsBaseOf w.key)) e (based_at catalog apart start p work i w at).is_write.base in is_write.0
 
-  forward_rolls : (g h : Database) (w : Write) (r : Reply) → Called (forward_of p.id p.now w) r g h → Rolled g h w (Some (forward_record (prepared_record w p.id p.now) p.now))
-  forward_rolls g h w r c = put_rolls g h w (forward_record (prepared_record w p.id p.now) p.now) (is_as_prepared p.id w) r (forward-key (prepared_record w p.id p.now) p.now ∙ prepared-key w p.id p.now) c
-
-  back_next : (g h : Database) (a : Outcome) (n i : ℕ) (w : Write) (r : Reply) → OthersUnchanged p start g → StageAlone p g (Back a n i) → slice_get p.writes i ≡ Some w → Rolled g h w w.base → CommitAlone catalog start p h (step p (Back a n i) r)
-  back_next g h a n i w r others s at rolled = elim rolled.by [
-    | inl now ↦ present h (back a n (i + 1)) (others_stay catalog apart start p work g h i w at w.base now others) (to_back h a n (i + 1) (subst (λ o. IsSomeAnd (row_at o) (λ d. d.decision ≡ decision.Aborted)) (sym (row_stays catalog apart start p work g h i w at w.base now)) s.0) (each_write catalog apart start p work g h i w at w.base now (IsLoose p) (inl refl) s.1) s.2)
+  back_next : (g h : Database) (a : Outcome) (n i j : ℕ) (w : Write) (r : Reply) → OthersUnchanged p start g → StageAlone p g (Back a n i) → slice_get p.writes j ≡ Some w → Rolled g h w w.base → CommitAlone catalog start p h (step p (Back a n i) r)
+  back_next g h a n i j w r others s at rolled = elim rolled.by [
+    | inl now ↦ present h (back a n (i + 1)) (others_stay catalog apart start p work g h j w at w.base now others) (to_back h a n (i + 1) (subst (λ o. IsSomeAnd (row_at o) (λ d. d.decision ≡ decision.Aborted)) (sym (row_stays catalog apart start p work g h j w at w.base now)) s.0) (each_write catalog apart start p work g h j w at w.base now (IsLoose p) (inl refl) s.1) s.2)
     | inr same ↦ same_stage catalog start g h p (back a n (i + 1)) same (present g (back a n (i + 1)) others (to_back g a n (i + 1) s.0 s.1 s.2))
   ]
 
-  forward_next : (g h : Database) (i : ℕ) (w : Write) (r : Reply) → OthersUnchanged p start g → StageAlone p g (Forward i) → slice_get p.writes i ≡ Some w → Rolled g h w (Some (forward_record (prepared_record w p.id p.now) p.now)) → CommitAlone catalog start p h (step p (Forward i) r)
-  forward_next g h i w r others s at rolled = elim rolled.by [
-    | inl now ↦
-        let new : Option Record = Some (forward_record (prepared_record w p.id p.now) p.now) in
-        present h (forward p (i + 1)) (others_stay catalog apart start p work g h i w at new now others) (to_forward h (ap row_at (row_stays catalog apart start p work g h i w at new now) ∙ s.0, each_write catalog apart start p work g h i w at new now (IsWon p) (inr refl) s.1) (i + 1))
-    | inr same ↦ same_stage catalog start g h p (forward p (i + 1)) same (present g (forward p (i + 1)) others (to_forward g s (i + 1)))
-  ]
+  ---- groups
+
+  -- the writes of a group are of the COMMIT, and their keys differ
+  own_writes : (i : ℕ) (ws : List Write) → slice_get (grouped p.writes) i ≡ Some ws → (k : ℕ) (w : Write) → slice_get ws k ≡ Some w → (j : ℕ) × (slice_get p.writes j ≡ Some w)
+  own_writes i ws here k w at = place_of_grouped p.writes (place_of p i k) w (placed p i ws here k w at)
+
+  groups_differ : are_distinct (keys_of_writes (in_groups p.writes)) ≡ true
+  groups_differ = groups_once p.writes (keys_differ p.writes work.once)
+
+  prepare_key : (w : Write) → (prepare_of p.id p.now w).rec.key ≡ w.key
+  prepare_key w = prepared-key w p.id p.now
+
+  forward_key : (w : Write) → (forward_of p.id p.now w).rec.key ≡ w.key
+  forward_key w = forward-key (prepared_record w p.id p.now) p.now ∙ prepared-key w p.id p.now
+
+  forward_next : (g h : Database) (i : ℕ) (ws : List Write) (r : Reply) → OthersUnchanged p start g → StageAlone p g (Forward i) → slice_get (grouped p.writes) i ≡ Some ws → Called (forwards_of p.id p.now ws) r g h → CommitAlone catalog start p h (step p (Forward i) r)
+  forward_next g h i ws r others s here called = by (are_met (map (forward_of p.id p.now) ws) g) refl
+    where
+      done : (are_met (map (forward_of p.id p.now) ws) g ≡ true → TookEffect (with_batch (map (forward_of p.id p.now) ws) g) r g h) × (are_met (map (forward_of p.id p.now) ws) g ≡ false → Same g h)
+      done = sent_called (map (forward_of p.id p.now) ws) r g h called
+
+      stays : Same g h → CommitAlone catalog start p h (forward p (i + 1))
+      stays same = same_stage catalog start g h p (forward p (i + 1)) same (present g (forward p (i + 1)) others (to_forward g s (i + 1)))
+
+      from : TookEffect (with_batch (map (forward_of p.id p.now) ws) g) r g h → CommitAlone catalog start p h (forward p (i + 1))
+      from (Undone replied same) = stays same
+      from (Done replied now) =
+          let once = keys_once p i ws here groups_differ in
+          let own = own_writes i ws here in
+          present h (forward p (i + 1)) (group_others catalog apart start p work g h ws (forward_of p.id p.now) forward_key once own now others)
+          (to_forward h (ap row_at (group_row catalog apart start p work g h ws (forward_of p.id p.now) forward_key once own now) ∙ s.0, each_group catalog apart start p work g h ws (forward_of p.id p.now) forward_key once own now (IsWon p) (λ w. inr refl) s.1) (i + 1))
+
+      by : (b : Bool) → are_met (map (forward_of p.id p.now) ws) g ≡ b → CommitAlone catalog start p h (forward p (i + 1))
+      by true e = from (done.0 e)
+      by false e = stays (done.1 e)
 
   ---- prepares
 
-  module _ (g h : Database) (i : ℕ) (w : Write) (at : slice_get p.writes i ≡ Some w) (others : OthersUnchanged p start g) (s : StageAlone p g (Preparing i)) where
-    abbrev prep : Record
-    prep = prepared_record w p.id p.now
-
-    base_firm : is_committed_or_none w.base ≡ true
-    base_firm = by w.base (based_at catalog apart start p work i w at).is_write.base
+  module _ (g h : Database) (i : ℕ) (ws : List Write) (here : slice_get (grouped p.writes) i ≡ Some ws) (others : OthersUnchanged p start g) (s : StageAlone p g (Preparing i)) where
+    base_firm : (j : ℕ) (w : Write) → slice_get p.writes j ≡ Some w → is_committed_or_none w.base ≡ true
+    base_firm j w at = by w.base (based_at catalog apart start p work j w at).is_write.base
       where
         by : (o : Option Record) → IfSome o (IsBaseOf w.key) → is_committed_or_none o ≡ true
         by None f = refl
         by (Some b) f = f.2
 
-    base_taken : (b : Record) → w.base ≡ Some b → is_transactional b ≡ true
-    base_taken b e = let is_write = subst (λ o. IfSome o (IsBaseOf w.key)) e (based_at catalog apart start p work i w at).is_write.base in is_write.1
+    base_taken : (j : ℕ) (w : Write) → slice_get p.writes j ≡ Some w → (b : Record) → w.base ≡ Some b → is_transactional b ≡ true
+    base_taken j w at b e = let is_write = subst (λ o. IfSome o (IsBaseOf w.key)) e (based_at catalog apart start p work j w at).is_write.base in is_write.1
 
-    may : holds (condition_of (version_of w.base)) (g prep.key) ≡ true
-    may = ap (λ k. holds (condition_of (version_of w.base)) (g k)) (prepared-key w p.id p.now) ∙ ap (holds (condition_of (version_of w.base))) (s.1.from i w (omega arith) at) ∙ version_holds w.base base_firm base_taken
+    first : (n k : ℕ) → n ≤ n + k
+    first n k = omega arith
 
-    module _ (now : IsWith w.key (Some prep) g h) where
-      prepared_more : ArePrepared p (i + 1) h
+    may : are_met (map (prepare_of p.id p.now) ws) g ≡ true
+    may = all_met (prepare_of p.id p.now) prepare_key g ws (λ k w at.
+        let mine = own_writes i ws here k w at in
+        ap (λ q. holds (condition_of (version_of w.base)) (g q)) (prepared-key w p.id p.now)
+        ∙ ap (holds (condition_of (version_of w.base))) (s.1.from (place_of p i k) w (first (writes_before p i) k) (placed p i ws here k w at))
+        ∙ version_holds w.base (base_firm mine.0 w mine.1) (base_taken mine.0 w mine.1))
+
+    once : are_distinct (keys_of_writes ws) ≡ true
+    once = keys_once p i ws here groups_differ
+
+    module _ (now : Same (with_batch (map (prepare_of p.id p.now) ws) g) h) where
+      -- a write of another group
+      aside : (j : ℕ) (v : Write) → slice_get (in_groups p.writes) j ≡ Some v → (j < writes_before p i) ⊎ (writes_before p (i + 1) ≤ j) → h v.key ≡ g v.key
+      aside j v at outside = group_aside catalog apart start p work g h ws (prepare_of p.id p.now) prepare_key once (own_writes i ws here) now v.key (apart_from_group p i ws here groups_differ j v at outside)
+
+      prepared_more : ArePrepared p (writes_before p (i + 1)) h
       prepared_more = record {
-        below = λ j v less there_at. by j v there_at (nat_lt j i) refl less;
-        from = λ j v more there_at. now v.key ∙ ap (λ b. if b then Some prep else g v.key) (apart_from j v more there_at) ∙ s.1.from j v (omega arith) there_at;
+        below = λ j v less at. elim (side (writes_before p i) j) [
+          | inl before ↦ aside j v at (inl before) ∙ s.1.below j v before at
+          | inr from ↦
+              let found = place_in_group (grouped p.writes) i j ws v here from less at in
+              group_there catalog apart start p work g h ws (prepare_of p.id p.now) prepare_key once (own_writes i ws here) now found.0 v found.1
+        ];
+        from = λ j v more at. aside j v at (inr more) ∙ s.1.from j v (later (writes_before p i) (length ws) j (more_before p i ws here) more) at;
       }
         where
-          apart_from : (j : ℕ) (v : Write) → i + 1 ≤ j → slice_get p.writes j ≡ Some v → same_key v.key w.key ≡ false
-          apart_from j v more there_at = elim (same_key_decides v.key w.key) [
-            | inl e ↦ absurd (once_apart p.writes i j w v work.once (omega arith) at there_at e.1)
-            | inr n ↦ n.0
-          ]
-
-          below : (j : ℕ) (v : Write) → j < i → slice_get p.writes j ≡ Some v → same_key v.key w.key ≡ false
-          below j v less there_at = elim (same_key_decides v.key w.key) [
-            | inl e ↦ absurd (once_apart p.writes j i v w work.once less there_at at (sym e.1))
-            | inr n ↦ n.0
-          ]
-
-          here : (j : ℕ) (v : Write) → slice_get p.writes j ≡ Some v → j ≡ i → IsPrepared p v (h v.key)
-          here j v there_at e =
-              let one : w ≡ v = some_is w v (sym at ∙ ap (slice_get p.writes) (sym e) ∙ there_at) in
-              subst (λ x. IsPrepared p x (h x.key)) one (there catalog apart start p work g h i w at (Some prep) now)
-
-          by : (j : ℕ) (v : Write) → slice_get p.writes j ≡ Some v → (b : Bool) → nat_lt j i ≡ b → j < i + 1 → IsPrepared p v (h v.key)
-          by j v there_at true e less = now v.key ∙ ap (λ b. if b then Some prep else g v.key) (below j v (grind (arith, nat_tests)) there_at) ∙ s.1.below j v (grind (arith, nat_tests)) there_at
-          by j v there_at false e less = here j v there_at (grind (arith, nat_tests))
+          later : (m n j : ℕ) → m + n ≡ writes_before p (i + 1) → writes_before p (i + 1) ≤ j → m ≤ j
+          later m n j e more = omega (arith, e, more)
 
       none_still : IsUndecided h p.id
-      none_still = row_stays catalog apart start p work g h i w at (Some prep) now ∙ s.0
+      none_still = group_row catalog apart start p work g h ws (prepare_of p.id p.now) prepare_key once (own_writes i ws here) now ∙ s.0
 
       others_still : OthersUnchanged p start h
-      others_still = others_stay catalog apart start p work g h i w at (Some prep) now others
+      others_still = group_others catalog apart start p work g h ws (prepare_of p.id p.now) prepare_key once (own_writes i ws here) now others
 
-      prepared_on : (q : Option Request) → CommitAlone catalog start p h (after_prepare p i (touched_after i reply.Applied) (prepare_step (nat_lt (i + 1) (length p.writes)) q reply.Applied))
-      prepared_on q = by (nat_lt (i + 1) (length p.writes)) refl
+      prepared_on : (q : Option Request) (n : ℕ) → CommitAlone catalog start p h (after_prepare p i n (prepare_step (nat_lt (i + 1) (groups_of p)) q reply.Applied))
+      prepared_on q n = by (nat_lt (i + 1) (groups_of p)) refl
         where
-          by : (b : Bool) → nat_lt (i + 1) (length p.writes) ≡ b → CommitAlone catalog start p h (after_prepare p i (i + 1) (if b then prepare.More else prepare.Done))
+          by : (b : Bool) → nat_lt (i + 1) (groups_of p) ≡ b → CommitAlone catalog start p h (after_prepare p i n (if b then prepare.More else prepare.Done))
           by true e = present h (Preparing (i + 1)) others_still (none_still, prepared_more)
-          by false e = present h (checking p 0) others_still (to_checks h none_still (λ j v there_at. prepared_more.below j v (last j v there_at) there_at) 0)
+          by false e = present h (checking p 0) others_still (to_checks h none_still all 0)
             where
-              last : (j : ℕ) (v : Write) → slice_get p.writes j ≡ Some v → j < i + 1
-              last j v there_at = let within = slice_get_within p.writes j v there_at in grind (arith, nat_tests)
+              all : EachWrite p (IsPrepared p) h
+              all j v at = let f = place_in_groups p.writes j v at in prepared_more.below f.0 v (subst (λ n. f.0 < n) (sym (whole p i e)) (within_writes p f.0 v f.1)) f.1
 
-    prepare_next : (r : Reply) → Wrote w.key (Some prep) r g h → CommitAlone catalog start p h (step p (Preparing i) r)
-    prepare_next r (Done (inl replied) now) = subst (λ x. CommitAlone catalog start p h (step p (Preparing i) x)) (sym replied) (prepared_on now (slice_get (prepares p) i))
-    prepare_next r (Done (inr replied) now) = subst (λ x. CommitAlone catalog start p h (step p (Preparing i) x)) (sym replied) (present h (Stopping outcome.Faulted (i + 1)) (others_still now) (none_still now, loose_below p (i + 1) h (prepared_more now), tt))
-    prepare_next r (Undone (inl replied) same) = subst (λ x. CommitAlone catalog start p h (step p (Preparing i) x)) (sym replied) (same_stage catalog start g h p (Stopping outcome.Faulted (i + 1)) same (present g (Stopping outcome.Faulted (i + 1)) others (s.0, loose_below p i g s.1, tt)))
-    prepare_next r (Undone (inr replied) same) = subst (λ x. CommitAlone catalog start p h (step p (Preparing i) x)) (sym replied) (same_stage catalog start g h p (Stopping outcome.NoMemory i) same (present g (Stopping outcome.NoMemory i) others (s.0, loose_below p i g s.1, tt)))
+    prepare_next : (r : Reply) → TookEffect (with_batch (map (prepare_of p.id p.now) ws) g) r g h → CommitAlone catalog start p h (step p (Preparing i) r)
+    prepare_next r (Done (inl replied) now) = subst (λ x. CommitAlone catalog start p h (step p (Preparing i) x)) (sym replied) (prepared_on now (slice_get (prepares p) i) (writes_before p i + puts_of (slice_get (prepares p) i)))
+    prepare_next r (Done (inr replied) now) = subst (λ x. CommitAlone catalog start p h (step p (Preparing i) x)) (sym replied) (present h (step p (Preparing i) reply.Fault) (others_still now) (none_still now, loose_below p (writes_before p (i + 1)) h (prepared_more now), tt))
+    prepare_next r (Undone (inl replied) same) = subst (λ x. CommitAlone catalog start p h (step p (Preparing i) x)) (sym replied) (same_stage catalog start g h p (step p (Preparing i) reply.Fault) same (present g (step p (Preparing i) reply.Fault) others (s.0, loose_below p (writes_before p i) g s.1, tt)))
+    prepare_next r (Undone (inr replied) same) = subst (λ x. CommitAlone catalog start p h (step p (Preparing i) x)) (sym replied) (same_stage catalog start g h p (step p (Preparing i) reply.NoMemory) same (present g (step p (Preparing i) reply.NoMemory) others (s.0, loose_below p (writes_before p i) g s.1, tt)))
 
   ---- checks
 
@@ -343,16 +367,18 @@ commits catalog apart start sound p g h s q r alone asked called = by s alone.st
     IsCalledBy None = ⊥
     IsCalledBy (Some x) = Called x r g h
 
-    -- at the write of a place
-    at_write : (f : Write → Request) (i : ℕ) (G : Type 0) → ((w : Write) → slice_get p.writes i ≡ Some w → Called (f w) r g h → G) → IsCalledBy (slice_get (map f p.writes) i) → G
-    at_write f i G each c = on (slice_get p.writes i) refl (subst (λ o. IsCalledBy o) (slice_get-map f p.writes i) c)
+    -- at what is at a place
+    at_place : {A : Type 0} (xs : List A) (f : A → Request) (i : ℕ) (G : Type 0) → ((x : A) → slice_get xs i ≡ Some x → Called (f x) r g h → G) → IsCalledBy (slice_get (map f xs) i) → G
+    at_place {A = A} xs f i G each c = on (slice_get xs i) refl (subst (λ o. IsCalledBy o) (slice_get-map f xs i) c)
       where
-        on : (o : Option Write) → slice_get p.writes i ≡ o → IsCalledBy (option_map f o) → G
+        on : (o : Option A) → slice_get xs i ≡ o → IsCalledBy (option_map f o) → G
         on None e c = absurd c
-        on (Some w) e c = each w e c
+        on (Some x) e c = each x e c
 
     by : (s : Stage) → StageAlone p g s → IsCalledBy (pending p s) → CommitAlone catalog start p h (step p s r)
-    by (Preparing i) st c = at_write (prepare_of p.id p.now) i (CommitAlone catalog start p h (step p (Preparing i) r)) (λ w at call. prepare_next catalog apart start sound p alone.work g h i w at alone.others st r (subst (λ k. Wrote k (Some (prepared_record w p.id p.now)) r g h) (prepared-key w p.id p.now) (call.0 (may catalog apart start sound p alone.work g h i w at alone.others st)))) c
+    by (Preparing i) st c =
+        at_place (grouped p.writes) (prepares_of p.id p.now) i (CommitAlone catalog start p h (step p (Preparing i) r))
+        (λ ws here call. prepare_next catalog apart start sound p alone.work g h i ws here alone.others st r ((sent_called (map (prepare_of p.id p.now) ws) r g h call).0 (may catalog apart start sound p alone.work g h i ws here alone.others st))) c
     by (Checking i) st c = on (slice_get (checks p) i) refl c
       where
         on : (o : Option Check) → slice_get (checks p) i ≡ o → IsCalledBy (option_map (λ (x : Check). x.request) o) → CommitAlone catalog start p h (step p (Checking i) r)
@@ -363,7 +389,10 @@ commits catalog apart start sound p g h s q r alone asked called = by s alone.st
     by (Deciding phase.Abort) st c = abort_next catalog apart start sound p alone.work g h r alone.others st (put_row catalog apart start sound p alone.work g h r decision.Aborted st.0 c)
     by (Deciding phase.Again) st c = same_stage catalog start g h p (step p (Deciding phase.Again) r) c.0 (again_next catalog apart start sound p alone.work g r alone.others st c.1)
     by (Deciding phase.Ended) st c = absurd c
-    by (Forward i) st c = at_write (forward_of p.id p.now) i (CommitAlone catalog start p h (step p (Forward i) r)) (λ w at call. forward_next catalog apart start sound p alone.work g h i w r alone.others st at (forward_rolls catalog apart start sound p alone.work g h w r call)) c
+    by (Forward i) st c =
+        at_place (grouped p.writes) (forwards_of p.id p.now) i (CommitAlone catalog start p h (step p (Forward i) r)) (λ ws here call. forward_next catalog apart start sound p alone.work g h i ws r alone.others st here call) c
     by (Stopping a n) st c = stop_next catalog apart start sound p alone.work g h a n r alone.others st (put_row catalog apart start sound p alone.work g h r decision.Aborted st.0 c)
-    by (Back a n i) st c = at_write (back_of p.id) i (CommitAlone catalog start p h (step p (Back a n i) r)) (λ w at call. back_next catalog apart start sound p alone.work g h a n i w r alone.others st at (back_rolls catalog apart start sound p alone.work g h i w r at call)) c
+    by (Back a n i) st c =
+        at_place (in_groups p.writes) (back_of p.id) i (CommitAlone catalog start p h (step p (Back a n i) r))
+        (λ w at call. let mine = place_of_grouped p.writes i w at in back_next catalog apart start sound p alone.work g h a n i mine.0 w r alone.others st mine.1 (back_rolls catalog apart start sound p alone.work g h mine.0 w r mine.1 call)) c
     by (Over a) st c = absurd c

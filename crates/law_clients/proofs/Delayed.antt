@@ -83,12 +83,7 @@ enabled_leaves : (plan : ℕ → Plan) (past : List Labelled) (e : Event) (actio
 enabled_leaves plan past e Other m = tt
 enabled_leaves plan past e (Begins t c) m = tt
 enabled_leaves plan past e (Takes t) m = tt
-enabled_leaves plan past e (Prepares t [] word) m = absurd m
-enabled_leaves plan past e (Prepares t (k ∷ []) word) m = inl (λ q has. subst (λ x. (protocol_state past).asked t x ≡ false) (sym (only q k has)) m.once)
-  where
-    only : (q k : Key) → has_key (k ∷ []) q ≡ true → q ≡ k
-    only q k has = grind (arith, tests)
-enabled_leaves plan past e (Prepares t (k ∷ l ∷ ks) word) m = absurd m
+enabled_leaves plan past e (Prepares t ks word) m = inl m.once
 enabled_leaves plan past e (Checks t i) m = m.stage
 enabled_leaves plan past e (Decides t word) m = tt
 enabled_leaves plan past e (Aborts t moment word) m = tt
@@ -125,10 +120,10 @@ one_reply c d s u q p h g r x a b e = cc
 no_ack : (word : Ack) (r : Reply) → word ≡ ack_of r → reply.Fault ≡ r → word ≡ NoAck
 no_ack word r i j = i ∙ ap ack_of (sym j)
 
-asks_prepare : (h : ProtocolState) (t : ℕ) (k : Key) (word : Ack) → word ≡ NoAck → h.accepted t ≡ true → IsUnanswered (state_after_event h (Prepares t (k ∷ []) word)) (Prepares t (k ∷ []) word)
-asks_prepare h t k word none accepted = (accepted, λ q has. at q has, none)
+asks_prepare : (h : ProtocolState) (t : ℕ) (ks : List Key) (word : Ack) → word ≡ NoAck → h.accepted t ≡ true → IsUnanswered (state_after_event h (Prepares t ks word)) (Prepares t ks word)
+asks_prepare h t ks word none accepted = (accepted, λ q has. at q has, none)
   where
-    at : (q : Key) → has_key (k ∷ []) q ≡ true → IsUnansweredAt (state_after_event h (Prepares t (k ∷ []) word)) t q
+    at : (q : Key) → has_key ks q ≡ true → IsUnansweredAt (state_after_event h (Prepares t ks word)) t q
     at q has = grind (arith, tests)
 
 asks_decide : (h : ProtocolState) (t : ℕ) (word : Ack) → word ≡ NoAck → h.accepted t ≡ true → IsUnanswered (state_after_event h (Decides t word)) (Decides t word)
@@ -144,9 +139,7 @@ module _ (plan : ℕ → Plan) (past : List Labelled) (client : ℕ) (store : Na
 
   asks : (action : Action) → IsEnabled plan past delayed action → IsUnanswered (state_after_event (protocol_state past) action) action
   asks Other m = tt
-  asks (Prepares t [] word) m = absurd m
-  asks (Prepares t (k ∷ []) word) m = asks_prepare (protocol_state past) t k word (no_ack word m.r m.word_is (one_reply client m.client store m.call.store q _ Delayed m.call.how reply.Fault m.r answered m.call.answer m.call.call)) m.within.accepted
-  asks (Prepares t (k ∷ l ∷ ks) word) m = absurd m
+  asks (Prepares t ks word) m = asks_prepare (protocol_state past) t ks word (no_ack word m.r m.word_is (one_reply client m.client store m.call.store q _ Delayed m.call.how reply.Fault m.r answered m.call.answer m.call.call)) m.within.accepted
   asks (Decides t word) m = asks_decide (protocol_state past) t word (no_ack word m.r m.word_is (one_reply client m.client store m.call.store q _ Delayed m.call.how reply.Fault m.r answered m.call.answer m.call.call)) m.within.accepted
   asks (Aborts t moment word) m = no_ack word m.r m.word_is (one_reply client m.client store m.call.store q _ Delayed m.call.how reply.Fault m.r answered m.call.answer m.call.call)
   asks (Rolls t ks d) m = tt

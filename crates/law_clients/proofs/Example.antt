@@ -17,7 +17,7 @@ use Rattle.law_protocol.specs.Lawful.{Labelled, protocol_state, labelled_with}
 use Rattle.law_protocol.specs.Plan.{Plan}
 use Rattle.law_protocol.specs.Worked.{account, nothing as no_plan, inserts}
 use Rattle.law_protocol.proofs.Public.{begin_begins, commit_commits}
-use Rattle.sdb_phases.specs.Work.{prepare_of, decide_of}
+use Rattle.sdb_phases.specs.Work.{prepares_of, decide_of}
 use Rattle.sdb_phases.specs.declared.step.DecidePhase.TheVariants as phase
 use Rattle.sdb_phases.specs.Commit.{Preparing, Deciding, Forward}
 use Rattle.sdb_record.specs.Names.{is_meta, base_name}
@@ -112,7 +112,7 @@ unfolding same_key
 commit_taken = take_turn plans past3 sys5 1 first_id wrote_once (pos 0) (codes "COMMIT") (record { ok = row_written; at = refl }) (record { reads = commit_commits; moment = refl })
 
 abbrev prepared_call : ClientCall
-prepared_call = call_of (prepare_of first_id (pos 0) inserts) reply.Applied
+prepared_call = call_of (prepares_of first_id (pos 0) (inserts ∷ [])) reply.Applied
 
 abbrev past5 : List Labelled
 past5 = commit_labelled first_work (Preparing 0) prepared_call ∷ past4

@@ -1,6 +1,9 @@
 -- A client is answered as after a fault only where a reply to one of its calls was a fault.
 use Rattle.std.proofs.Common.{◌≡◌, ◌⊎◌, inl, inr, ℕ, ℤ, ◌+◌, Bool, true, false, not, ◌&&◌, ◌||◌, List, [], ◌∷◌, ◌++◌, Option, Some, None, Result, Ok, Err, refl, sym, ap, subst, ◌∙◌, length}
 use Rattle.std.specs.Prelude.{is_some, nat_lt, slice_get, if◌then◌else◌}
+use Rattle.std.specs.Option.{option_map_or}
+use Rattle.sdb_types.specs.declared.record.Put.{Put}
+use Rattle.sdb_types.specs.Contents.{put_at}
 use Rattle.law_clients.specs.Types.{Access, Answer, Check, DecidePhase, Decided, Decision, Doing, Image, Key, Keyed, Meta, Next, Outcome, PrepareStep, Progress, Record, RecoverPhase, RecoverStep, Refusal, Reply, Request, Span, Statement, Table, VacuumStep, ValidateStep}
 use Rattle.sdb_types.specs.declared.record.Reply.TheVariants as reply
 use Rattle.sdb_types.specs.declared.record.Request.TheVariants as ask
@@ -24,9 +27,9 @@ use Rattle.sdb_phases.specs.declared.step.PrepareStep.TheVariants as prepare
 use Rattle.sdb_phases.specs.declared.step.ValidateStep.TheVariants as validate
 use Rattle.sdb_phases.specs.declared.step.RecoverPhase.TheVariants as phase
 use Rattle.sdb_phases.specs.declared.step.RecoverStep.TheVariants as steps
-use Rattle.sdb_phases.specs.Work.{Work, prepares}
+use Rattle.sdb_phases.specs.Work.{Work, groups_of, prepares, writes_before}
 use Rattle.sdb_phases.specs.Checks.{checks, difference_in}
-use Rattle.sdb_phases.specs.Steps.{judged, prepare_step, step_of_row, touched_after, validate_step}
+use Rattle.sdb_phases.specs.Steps.{judged, prepare_step, refused as prepare_refused, step_of_row, touched_after, validate_step}
 use Rattle.sdb_phases.specs.Commit.{Back, Checking, Deciding, Forward, Over, Preparing, Stage, Stopping, after_abort, after_check, after_decide, after_prepare, back, checking, forward, preparing, step as commit_step}
 use Rattle.sdb_phases.specs.Recover.{recover_next, row_followed, undecided}
 use Rattle.sdb_phases.proofs.Public.{by_expiry, by_row}
@@ -111,7 +114,7 @@ read_of_fault (Ended s) now r h = inl h
 ---- COMMITs
 
 commit_forward : (p : Work) (i : ℕ) → CommitsAfterFault (forward p i) → ⊥
-commit_forward p i h = by (nat_lt i (length p.writes)) h
+commit_forward p i h = by (nat_lt i (groups_of p)) h
   where
     by : (b : Bool) → CommitsAfterFault (if b then Forward i else Over outcome.Committed) → ⊥
     by true h = h
@@ -125,7 +128,7 @@ commit_checking p i h = by (nat_lt i (length (checks p))) h
     by false h = h
 
 commit_preparing : (p : Work) (i : ℕ) → CommitsAfterFault (preparing p i) → ⊥
-commit_preparing p i h = by (nat_lt i (length p.writes)) h
+commit_preparing p i h = by (nat_lt i (groups_of p)) h
   where
     by : (b : Bool) → CommitsAfterFault (if b then Preparing i else checking p 0) → ⊥
     by true h = h
@@ -145,15 +148,24 @@ commit_prepared p i n (prepare.Conflict key found) h = absurd h
 commit_prepared p i n prepare.Faulted h = refl
 commit_prepared p i n prepare.NoMemory h = absurd h
 
+refused_fault : {A : Type 0} (q : Option Request) (k : ℕ) (found : Option Record) → prepare_refused q k found ≡ prepare.Faulted → A
+refused_fault None k found e = absurd (cc)
+refused_fault (Some (ask.Get key)) k found e = absurd (cc)
+refused_fault (Some (ask.Scan span)) k found e = absurd (cc)
+refused_fault (Some (ask.PutIf rec condition)) k found e = absurd (cc)
+refused_fault (Some (ask.DeleteIf key condition)) k found e = absurd (cc)
+refused_fault {A = A} (Some (ask.PutAll batch)) k found e = by (put_at batch k) e
+  where
+    by : (o : Option Put) → option_map_or (λ (p : Put). prepare.Conflict p.rec.key found) o prepare.NoMemory ≡ prepare.Faulted → A
+    by None e = absurd (cc)
+    by (Some p) e = absurd (cc)
+
 prepares_fault : (more : Bool) (q : Option Request) (r : Reply) → prepare_step more q r ≡ prepare.Faulted → r ≡ reply.Fault
 prepares_fault more q reply.Fault e = refl
 prepares_fault true q reply.Applied e = cc
 prepares_fault false q reply.Applied e = cc
-prepares_fault more (Some (ask.PutIf rec condition)) (reply.NotMet found) e = cc
-prepares_fault more (Some (ask.Get key)) (reply.NotMet found) e = cc
-prepares_fault more (Some (ask.Scan span)) (reply.NotMet found) e = cc
-prepares_fault more (Some (ask.DeleteIf key condition)) (reply.NotMet found) e = cc
-prepares_fault more None (reply.NotMet found) e = cc
+prepares_fault more q (reply.NotMet found) e = refused_fault q 1 found e
+prepares_fault more q (reply.NotAll place found) e = refused_fault q place found e
 prepares_fault more q (reply.Found found) e = cc
 prepares_fault more q (reply.Rows rows) e = cc
 prepares_fault more q reply.NoMemory e = cc
@@ -177,10 +189,12 @@ validates_fault more None reply.Applied e = cc
 validates_fault more None (reply.NotMet found) e = cc
 validates_fault more None (reply.Found found) e = cc
 validates_fault more None (reply.Rows rows) e = cc
+validates_fault more None (reply.NotAll place there) e = cc
 validates_fault more (Some c) reply.Applied e = absurd (judges_fault more (difference_in c reply.Applied) e)
 validates_fault more (Some c) (reply.NotMet found) e = absurd (judges_fault more (difference_in c (reply.NotMet found)) e)
 validates_fault more (Some c) (reply.Found found) e = absurd (judges_fault more (difference_in c (reply.Found found)) e)
 validates_fault more (Some c) (reply.Rows rows) e = absurd (judges_fault more (difference_in c (reply.Rows rows)) e)
+validates_fault more (Some c) (reply.NotAll place there) e = absurd (judges_fault more (difference_in c (reply.NotAll place there)) e)
 
 -- a row that a put has met
 commit_followed : (p : Work) (d : DecidePhase) (x : Result Decided (List ℕ)) → CommitsAfterFault (after_decide p d (step_of_row p.id (decide.Expired p.id) x)) → ⊥
@@ -203,7 +217,7 @@ commit_aborted a n (reply.NotMet found) h = commit_back a n 0 h
 commit_aborted a n r h = h
 
 commit_of_fault : (p : Work) (s : Stage) (r : Reply) → CommitsAfterFault (commit_step p s r) → CommitsAfterFault s ⊎ (r ≡ reply.Fault)
-commit_of_fault p (Preparing i) r h = inr (prepares_fault (nat_lt (i + 1) (length p.writes)) (slice_get (prepares p) i) r (commit_prepared p i (touched_after i r) _ h))
+commit_of_fault p (Preparing i) r h = inr (prepares_fault (nat_lt (i + 1) (groups_of p)) (slice_get (prepares p) i) r (commit_prepared p i (touched_after (slice_get (prepares p) i) (writes_before p i) r) _ h))
 commit_of_fault p (Checking i) r h = inr (validates_fault (nat_lt (i + 1) (length (checks p))) (slice_get (checks p) i) r (commit_checked p i _ h))
 commit_of_fault p (Deciding decides.Put) r h = inr (commit_put p r h)
 commit_of_fault p (Deciding decides.Look) r h = inl tt

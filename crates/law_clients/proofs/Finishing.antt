@@ -154,6 +154,7 @@ asked_bad reply.Fault key e = absurd (cc)
 asked_bad reply.NoMemory key e = absurd (cc)
 asked_bad reply.Applied key e = absurd (cc)
 asked_bad (reply.NotMet found) key e = absurd (cc)
+asked_bad (reply.NotAll place there) key e = absurd (cc)
 
 -- A read goes on from there.
 abbrev pub GoesFrom : ReadStage → Type 0

@@ -1,5 +1,5 @@
 -- What a COMMIT knows stays so while other clients' events come.
-use Rattle.std.proofs.Common.{◌≡◌, ◌≢◌, ℕ, ℤ, true, false, List, [], ◌∷◌, length, Option, Some, None, refl, sym, ap, subst, ◌∙◌, arith, ◌⊎◌, inl, inr}
+use Rattle.std.proofs.Common.{◌≡◌, ◌≢◌, ℕ, ℤ, true, false, List, ◌∷◌, length, Option, Some, None, refl, sym, ap, subst, ◌∙◌, arith, ◌⊎◌, inl, inr}
 use Rattle.std.proofs.lemmas.Bool.Decides.{nat_tests}
 use Rattle.law_clients.specs.Types.{Event, Key, Outcome, Reply, Request}
 use Rattle.sdb_types.proofs.Public.{tests}
@@ -9,7 +9,7 @@ use Rattle.law_protocol.specs.Plan.{Plan}
 use Rattle.law_protocol.specs.History.{Action, Other, Begins, Takes, Prepares, Checks, Decides, Aborts, Rolls, Removes, Ends, Stops, ProtocolState, state_after_event, state_after}
 use Rattle.law_protocol.specs.History as laws
 use Rattle.law_protocol.specs.Lawful.{Labelled, protocol_state, ended, InCommit, IsCallOf, IsKnownCommitted, IsKnownAborted, IsBadRow, IsEnabled}
-use Rattle.sdb_phases.specs.Work.{Work}
+use Rattle.sdb_phases.specs.Work.{Work, writes_before}
 use Rattle.sdb_phases.specs.Checks.{checks}
 use Rattle.sdb_phases.specs.declared.step.DecidePhase.TheVariants as phase
 use Rattle.sdb_phases.specs.Commit.{Stage, Preparing, Checking, Deciding, Forward, Stopping, Back, Over}
@@ -246,7 +246,7 @@ over_later plan past q p (outcome.BadRecord key) c s k = why_later past q p.id.0
 over_later plan past q p outcome.NoMemory c s k = why_later past q p.id.0 c s k
 
 stage_later : (plan : ℕ → Plan) (past : List Labelled) (q : Labelled) (c : ℕ) (p : Work) (s : Stage) → SameFor p.id.0 c (protocol_state past) (protocol_state (q ∷ past)) → StageOk plan past p s → StageOk plan (q ∷ past) p s
-stage_later plan past q c p (Preparing i) f ok = (f.stage ∙ ok.0, told_later p c i (protocol_state past) (protocol_state (q ∷ past)) f ok.1, asked_later p c i (protocol_state past) (protocol_state (q ∷ past)) f ok.2, unasked_later p c i (protocol_state past) (protocol_state (q ∷ past)) f ok.3, f.risked ∙ ok.4)
+stage_later plan past q c p (Preparing i) f ok = (f.stage ∙ ok.0, told_later p c (writes_before p i) (protocol_state past) (protocol_state (q ∷ past)) f ok.1, asked_later p c (writes_before p i) (protocol_state past) (protocol_state (q ∷ past)) f ok.2, unasked_later p c (writes_before p i) (protocol_state past) (protocol_state (q ∷ past)) f ok.3, f.risked ∙ ok.4)
 stage_later plan past q c p (Checking i) f ok = (λ e. ok.0 (sym f.stage ∙ e), told_later p c (length p.writes) (protocol_state past) (protocol_state (q ∷ past)) f ok.1, asked_later p c (length p.writes) (protocol_state past) (protocol_state (q ∷ past)) f ok.2, checked_later p c i (protocol_state past) (protocol_state (q ∷ past)) f ok.3, ok.4, f.risked ∙ ok.5)
 stage_later plan past q c p (Deciding phase.Put) f ok = (told_later p c (length p.writes) (protocol_state past) (protocol_state (q ∷ past)) f ok.0, asked_later p c (length p.writes) (protocol_state past) (protocol_state (q ∷ past)) f ok.1, checked_later p c (length (checks p)) (protocol_state past) (protocol_state (q ∷ past)) f ok.2, ok.3, f.risked ∙ ok.4)
 stage_later plan past q c p (Deciding phase.Look) f ok = asked_later p c (length p.writes) (protocol_state past) (protocol_state (q ∷ past)) f ok
@@ -284,9 +284,7 @@ pub foreign : (plan : ℕ → Plan) (past : List Labelled) (c d t : ℕ) (e : Ev
 foreign plan past c d t e Other own begun apart by m = tt
 foreign plan past c d t e (Begins u n) own begun apart by m = λ same. begun (ap (protocol_state past).begun (sym same) ∙ m.fresh)
 foreign plan past c d t e (Takes u) own begun apart by m = λ same. apart (sym (subst (IsBy d) m.take by) ∙ sym m.owner ∙ ap (protocol_state past).owner same ∙ own)
-foreign plan past c d t e (Prepares u [] word) own begun apart by m = absurd m
-foreign plan past c d t e (Prepares u (k ∷ l ∷ ks) word) own begun apart by m = absurd m
-foreign plan past c d t e (Prepares u (k ∷ []) word) own begun apart by m = λ same. apart (sym (caller d m.client e _ m.r by m.call) ∙ sym m.within.owner ∙ ap (protocol_state past).owner same ∙ own)
+foreign plan past c d t e (Prepares u ks word) own begun apart by m = λ same. apart (sym (caller d m.client e _ m.r by m.call) ∙ sym m.within.owner ∙ ap (protocol_state past).owner same ∙ own)
 foreign plan past c d t e (Checks u i) own begun apart by m = λ same. apart (sym (caller d m.client e m.q m.r by m.call) ∙ sym m.within.owner ∙ ap (protocol_state past).owner same ∙ own)
 foreign plan past c d t e (Decides u word) own begun apart by m = λ same. apart (sym (caller d m.client e _ m.r by m.call) ∙ sym m.within.owner ∙ ap (protocol_state past).owner same ∙ own)
 foreign plan past c d t e (Aborts u n word) own begun apart by m = tt

@@ -57,9 +57,7 @@ after_played : (plan : ℕ → Plan) (past : List Labelled) (e : Event) (r : Act
 after_played plan past e Other m = tt
 after_played plan past e (Begins t c) m = tt
 after_played plan past e (Takes t) m = m.is_open
-after_played plan past e (Prepares t [] word) m = absurd m
-after_played plan past e (Prepares t (k ∷ []) word) m = m.within.accepted
-after_played plan past e (Prepares t (k ∷ l ∷ ks) word) m = absurd m
+after_played plan past e (Prepares t ks word) m = m.within.accepted
 after_played plan past e (Checks t i) m = m.within.accepted
 after_played plan past e (Decides t word) m = m.within.accepted
 after_played plan past e (Aborts t n word) m = tt

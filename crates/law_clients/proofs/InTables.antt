@@ -1,5 +1,5 @@
 -- What a transaction has read and written, and what a read and a COMMIT do, is of tables of the catalog.
-use Rattle.std.proofs.Common.{◌≡◌, ℕ, ℤ, zero, suc, ◌+◌, Bool, true, false, cond, ◌||◌, List, [], ◌∷◌, ◌++◌, map, filter, slice_get, Option, Some, None, IfSome, refl, sym, ap, subst, ◌∙◌}
+use Rattle.std.proofs.Common.{◌≡◌, ℕ, ℤ, zero, suc, ◌+◌, Bool, true, false, cond, ◌||◌, List, [], ◌∷◌, ◌++◌, map, filter, slice_get, Option, Some, None, IfSome, refl, sym, ap, subst, ◌∙◌, arith}
 use Rattle.std.specs.Prelude.{is_some, not}
 use Rattle.std.specs.Option.{option_and_then, option_map}
 use Rattle.std.specs.List.{AllByRecursion, list_all}
@@ -10,7 +10,8 @@ use Rattle.sdb_types.specs.declared.record.Reply.TheVariants as reply
 use Rattle.sdb_types.specs.declared.record.Request.TheVariants as ask
 use Rattle.sdb_types.specs.declared.record.Condition.TheVariants as condition
 use Rattle.sdb_types.specs.declared.record.State.TheVariants as state
-use Rattle.sdb_types.specs.Contents.{CanAnswer, are_rows_of, in_span, rise}
+use Rattle.sdb_types.specs.declared.record.Put.{Put}
+use Rattle.sdb_types.specs.Contents.{CanAnswer, are_rows_of, in_span, rise, sent}
 use Rattle.sdb_types.specs.Order.{table_cmp, same_key}
 use Rattle.sdb_types.proofs.Public.{append_all, key_exact, table_exact}
 use Rattle.sdb_snapshot.specs.Entries.{value_at}
@@ -22,7 +23,8 @@ use Rattle.sdb_record.specs.Moved.{version_of}
 use Rattle.sdb_record.specs.Parts.{before_part, before_record, record_with}
 use Rattle.sdb_record.specs.Meta.{id_in}
 use Rattle.sdb_record.specs.Rolls.{forward_record, is_tombstone, prepared_record, undo}
-use Rattle.sdb_record.proofs.Public.{forward-key, prepared-key}
+use Rattle.sdb_record.specs.Groups.{IsGroup, grouped, in_groups}
+use Rattle.sdb_record.proofs.Public.{all_at, each_group, forward-key, grouped_all, place_of_grouped, prepared-key}
 use Rattle.sdb_record.specs.Among.{is_written}
 use Rattle.sdb_model.specs.declared.statement.Statement.TheVariants as statement
 use Rattle.sdb_model.specs.Access.{in_access}
@@ -39,7 +41,7 @@ use Rattle.sdb_phases.specs.Checks.{check_of_read, check_of_scan, checks}
 use Rattle.sdb_phases.specs.Commit.{Stage, Preparing, Checking, Deciding, Forward, Stopping, Back, Over, pending}
 use Rattle.sdb_phases.specs.Recover.{recover_back, recover_forward, recover_next, recover_request_at, is_as_found}
 use Rattle.sdb_phases.proofs.Public.{by_steps_recover_rows as by_steps}
-use Rattle.sdb_phases.specs.Work.{Work, abort_of, back_of, backs, decide_of, forward_of, forwards, look_of, prepare_of, prepares, is_as_prepared}
+use Rattle.sdb_phases.specs.Work.{Work, abort_of, back_of, backs, decide_of, forward_of, forwards, forwards_of, look_of, prepare_of, prepares, prepares_of, is_as_prepared}
 use Rattle.sdb_txn.specs.Read.{Asking, Bad, Ended, Firm, Kind, Open, ReadStage, Resolving, answered, kind_of, read_pending_at, read_step, request_of, resolved, settle, settle_one}
 use Rattle.sdb_snapshot.specs.Reads.{ReadRecord, base_at, is_key_read, reads_of, with_images, with_read_record}
 use Rattle.sdb_snapshot.specs.Seen.{Seen, overlay, tables_seen, with_get, with_scan, with_written}
@@ -48,7 +50,7 @@ use Rattle.sdb_vacuum.specs.Vacuum.{First, Malformed, Nothing, Over as Ends, Rem
 use Rattle.law_clients.specs.About.{AreListed, AreReadItemsIn, AreRecordsIn, AreWritesIn, IsIn, IsListed, IsRecordIn, IsSeenIn, IsStageIn, IsVacuumStageIn, IsVacuumIn, IsWorkIn}
 use Rattle.sdb_types.specs.Exact.{equal_of}
 use Rattle.sdb_model.specs.Tables.{is_table_of_run}
-use Rattle.law_clients.proofs.Lists.{filter_all, map_all}
+use Rattle.law_clients.proofs.Lists.{each_both, filter_all, map_all}
 
 ---- the keys of an access
 
@@ -230,12 +232,14 @@ module _ (catalog : List Table) where
   answered_in (access.Get key) (reply.Rows rows) k h = absurd h
   answered_in (access.Get key) reply.Applied k h = absurd h
   answered_in (access.Get key) (reply.NotMet found) k h = absurd h
+  answered_in (access.Get key) (reply.NotAll place there) k h = absurd h
   answered_in (access.Get key) reply.Fault k h = tt
   answered_in (access.Get key) reply.NoMemory k h = tt
   answered_in (access.Scan span) (reply.Found found) k h = absurd h
   answered_in (access.Scan span) (reply.Rows rows) k h = settled_in [] rows tt (rows_of span rows k h)
   answered_in (access.Scan span) reply.Applied k h = absurd h
   answered_in (access.Scan span) (reply.NotMet found) k h = absurd h
+  answered_in (access.Scan span) (reply.NotAll place there) k h = absurd h
   answered_in (access.Scan span) reply.Fault k h = tt
   answered_in (access.Scan span) reply.NoMemory k h = tt
 
@@ -340,12 +344,30 @@ module _ (catalog : List Table) where
   abbrev IsWriteIn : Write → Type 0
   IsWriteIn w = IsIn catalog w.key × IsRecordIn catalog w.base
 
-  prepare_played : (id : TxId) (now : ℤ) (w : Write) → IsWriteIn w → IsPlayed (prepare_of id now w)
-  prepare_played id now w h = listed_played (prepared_record w id now).key.table (record_same w.key (prepared_record w id now) (prepared-key w id now) h.0)
+  -- puts of records of listed tables
+  abbrev AreOfTables : List Put → Type 0
+  AreOfTables ps = AllByRecursion (λ (p : Put). IsIn catalog p.rec.key) ps
 
-  forward_played : (id : TxId) (now : ℤ) (w : Write) → IsWriteIn w → IsPlayed (forward_of id now w)
-  forward_played id now w h =
-      listed_played (forward_record (prepared_record w id now) now).key.table (forward_in (prepared_record w id now) now (record_same w.key (prepared_record w id now) (prepared-key w id now) h.0))
+  sent_played : (p : Put) (ps : List Put) → AreOfTables (p ∷ ps) → IsPlayed (sent (p ∷ ps))
+  sent_played p [] h = listed_played p.rec.key.table h.0
+  sent_played p (q ∷ ps) h = listed_played p.rec.key.table h.0
+
+  group_played : (f : Write → Put) → ((w : Write) → IsWriteIn w → IsIn catalog (f w).rec.key) → (g : List Write) → IsGroup g × AllByRecursion IsWriteIn g → IsPlayed (sent (map f g))
+  group_played f of [] h = absurd (omega (arith, h.0.some))
+  group_played f of (w ∷ ws) h = sent_played (f w) (map f ws) (map_all IsWriteIn (λ (p : Put). IsIn catalog p.rec.key) f (w ∷ ws) of h.1)
+
+  -- each group of writes of listed tables
+  groups_in : (ws : List Write) → AllByRecursion IsWriteIn ws → AllByRecursion (λ (g : List Write). IsGroup g × AllByRecursion IsWriteIn g) (grouped ws)
+  groups_in ws h = each_both IsGroup (AllByRecursion IsWriteIn) (λ g. IsGroup g × AllByRecursion IsWriteIn g) (grouped ws) (λ g a b. (a, b)) (each_group ws) (grouped_all IsWriteIn ws h)
+
+  writes_in_groups : (ws : List Write) → AllByRecursion IsWriteIn ws → AllByRecursion IsWriteIn (in_groups ws)
+  writes_in_groups ws h = all_at IsWriteIn (in_groups ws) (λ i w at. let f = place_of_grouped ws i w at in one_of IsWriteIn ws f.0 w h f.1)
+
+  prepare_in : (id : TxId) (now : ℤ) (w : Write) → IsWriteIn w → IsIn catalog (prepare_of id now w).rec.key
+  prepare_in id now w h = record_same w.key (prepared_record w id now) (prepared-key w id now) h.0
+
+  forward_in_table : (id : TxId) (now : ℤ) (w : Write) → IsWriteIn w → IsIn catalog (forward_of id now w).rec.key
+  forward_in_table id now w h = forward_in (prepared_record w id now) now (prepare_in id now w h)
 
   back_played : (id : TxId) (w : Write) → IsWriteIn w → IsPlayed (back_of id w)
   back_played id w h = undo_played (is_as_prepared id w) w.key w.base h.0 h.1
@@ -370,16 +392,16 @@ module _ (catalog : List Table) where
   some_of (c ∷ cs) (suc i) h = some_of cs i h.1
 
   pub commit_played : (p : Work) (s : Stage) (q : Request) → IsWorkIn catalog p → pending p s ≡ Some q → IsPlayed q
-  commit_played p (Preparing i) q h e = one_of IsPlayed (prepares p) i q (map_all IsWriteIn IsPlayed (prepare_of p.id p.now) p.writes (prepare_played p.id p.now) h.writes) e
+  commit_played p (Preparing i) q h e = one_of IsPlayed (prepares p) i q (map_all (λ (g : List Write). IsGroup g × AllByRecursion IsWriteIn g) IsPlayed (prepares_of p.id p.now) (grouped p.writes) (group_played (prepare_of p.id p.now) (prepare_in p.id p.now)) (groups_in p.writes h.writes)) e
   commit_played p (Checking i) q h e = mapped_played (slice_get (checks p) i) q (some_of (checks p) i (checks_played p h)) e
   commit_played p (Deciding decides.Put) q h e = some_is IsPlayed (decide_of p.id p.now) q (decide_played p.id p.now) e
   commit_played p (Deciding decides.Look) q h e = some_is IsPlayed (look_of p.id) q (look_played p.id) e
   commit_played p (Deciding decides.Abort) q h e = some_is IsPlayed (abort_of p.id p.now) q (abort_played p.id p.now) e
   commit_played p (Deciding decides.Again) q h e = some_is IsPlayed (look_of p.id) q (look_played p.id) e
   commit_played p (Deciding decides.Ended) q h e = absurd (cc)
-  commit_played p (Forward i) q h e = one_of IsPlayed (forwards p) i q (map_all IsWriteIn IsPlayed (forward_of p.id p.now) p.writes (forward_played p.id p.now) h.writes) e
+  commit_played p (Forward i) q h e = one_of IsPlayed (forwards p) i q (map_all (λ (g : List Write). IsGroup g × AllByRecursion IsWriteIn g) IsPlayed (forwards_of p.id p.now) (grouped p.writes) (group_played (forward_of p.id p.now) (forward_in_table p.id p.now)) (groups_in p.writes h.writes)) e
   commit_played p (Stopping a n) q h e = some_is IsPlayed (abort_of p.id p.now) q (abort_played p.id p.now) e
-  commit_played p (Back a n i) q h e = one_of IsPlayed (backs p) i q (map_all IsWriteIn IsPlayed (back_of p.id) p.writes (back_played p.id) h.writes) e
+  commit_played p (Back a n i) q h e = one_of IsPlayed (backs p) i q (map_all IsWriteIn IsPlayed (back_of p.id) (in_groups p.writes) (back_played p.id) (writes_in_groups p.writes h.writes)) e
   commit_played p (Over a) q h e = absurd (cc)
 
   ---- the stages of a VACUUM
@@ -424,6 +446,7 @@ module _ (catalog : List Table) where
   sweep_rows_in ss n span (reply.Found found) h k can = (tt, h)
   sweep_rows_in ss n span reply.Applied h k can = (tt, h)
   sweep_rows_in ss n span (reply.NotMet found) h k can = (tt, h)
+  sweep_rows_in ss n span (reply.NotAll place there) h k can = (tt, h)
   sweep_rows_in ss n span reply.Fault h k can = (tt, h)
   sweep_rows_in ss n span reply.NoMemory h k can = (tt, h)
 
@@ -448,6 +471,7 @@ module _ (catalog : List Table) where
   removal_in ss n left (reply.NotMet found) h g = goes_in ss n left h g
   removal_in ss n left (reply.Found found) h g = (tt, h)
   removal_in ss n left (reply.Rows rows) h g = (tt, h)
+  removal_in ss n left (reply.NotAll place there) h g = (tt, h)
   removal_in ss n left reply.Fault h g = (tt, h)
   removal_in ss n left reply.NoMemory h g = (tt, h)
 

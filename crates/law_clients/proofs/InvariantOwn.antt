@@ -15,9 +15,9 @@ use Rattle.sdb_phases.specs.declared.step.RecoverPhase.TheVariants as phase
 use Rattle.sdb_phases.specs.Work.{Work}
 use Rattle.sdb_phases.specs.Commit.{Stage, Preparing, Checking, Deciding, Forward, Stopping, Back, Over}
 use Rattle.sdb_phases.specs.CommitLaws.{as_wished}
-use Rattle.sdb_record.specs.declared.coordinator.Decision.TheVariants as decision
 use Rattle.std.specs.Prelude.{slice_get}
-use Rattle.law_clients.specs.Owner.{prepare_action, action_of, roll_action}
+use Rattle.sdb_record.specs.Groups.{grouped, in_groups}
+use Rattle.law_clients.specs.Owner.{prepare_action, action_of, forward_action, back_action}
 use Rattle.law_clients.specs.Reader.{recover_action}
 use Rattle.law_clients.specs.ReadAt.{ReadAt, Asking, Done, Failed, Resolving, read_action}
 use Rattle.law_clients.specs.Vacuum.{VacuumModel, Scanning, Resolving as Resolves, Removing, Between, removes_action, vacuum_action}
@@ -94,9 +94,9 @@ sweep_plain (Removing b left) r = removes_plain b (id_in b.columns)
 sweep_plain Between r = tt
 
 pub commit_plain : (p : Work) (s : Stage) (r : Reply) → IsPlainRole (action_of p s r)
-commit_plain p (Preparing i) r = by (slice_get p.writes i)
+commit_plain p (Preparing i) r = by (slice_get (grouped p.writes) i)
   where
-    by : (o : Option Write) → IsPlainRole (prepare_action p.id.0 o r)
+    by : (o : Option (List Write)) → IsPlainRole (prepare_action p.id.0 o r)
     by None = tt
     by (Some w) = tt
 commit_plain p (Checking i) r = by (as_wished p (Checking i) r)
@@ -109,15 +109,15 @@ commit_plain p (Deciding decide.Look) r = tt
 commit_plain p (Deciding decide.Abort) r = tt
 commit_plain p (Deciding decide.Again) r = tt
 commit_plain p (Deciding decide.Ended) r = tt
-commit_plain p (Forward i) r = by (slice_get p.writes i)
+commit_plain p (Forward i) r = by (slice_get (grouped p.writes) i)
   where
-    by : (o : Option Write) → IsPlainRole (roll_action p.id.0 decision.Committed o)
+    by : (o : Option (List Write)) → IsPlainRole (forward_action p.id.0 o)
     by None = tt
     by (Some w) = tt
 commit_plain p (Stopping a n) r = tt
-commit_plain p (Back a n i) r = by (slice_get p.writes i)
+commit_plain p (Back a n i) r = by (slice_get (in_groups p.writes) i)
   where
-    by : (o : Option Write) → IsPlainRole (roll_action p.id.0 decision.Aborted o)
+    by : (o : Option Write) → IsPlainRole (back_action p.id.0 o)
     by None = tt
     by (Some w) = tt
 commit_plain p (Over a) r = tt

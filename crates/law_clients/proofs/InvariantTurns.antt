@@ -12,7 +12,7 @@ use Rattle.sdb_model.specs.Transactions.{Executed, begins, changes_nothing, ends
 use Rattle.law_protocol.specs.History.{Begins, Other, Stops, Takes, at}
 use Rattle.law_protocol.specs.Lawful.{Labelled, id, protocol_state, ends_with, labelled_with}
 use Rattle.law_protocol.specs.Plan.{Plan}
-use Rattle.sdb_phases.specs.Work.{Work}
+use Rattle.sdb_phases.specs.Work.{Work, groups_of}
 use Rattle.sdb_phases.specs.Checks.{checks}
 use Rattle.sdb_phases.specs.Commit.{Stage, Preparing, Checking, Deciding, Forward, Stopping, Back, Over, preparing}
 use Rattle.sdb_snapshot.specs.Seen.{Seen, nothing, with_written}
@@ -269,7 +269,7 @@ module _ (catalog : List Table) (fit : List Table → Tables → Bool) (events :
       own = record {
         ended = ended_at catalog fit plan (q_taken ∷ g.past) c x.whole ran run (ended_later catalog fit g.plan plan g.past q_taken c x.whole ran replanned before_taken was.ended);
         opened = subst (OpenedOk catalog fit plan (q_taken ∷ g.past) (number c n) x.rest) (sym (ran_here ran n run)) (opened x.rest refl was.opened);
-        next_state = subst (λ z. IsOpenOf None (with_waiting x s_taken) z (next_taken.clients c)) (sym (ran_here ran n run)) (subst (IsOpenOf None (with_waiting x s_taken) run) (sym (here (commit_left p (preparing p 0)))) (begins_at (nat_lt 0 (length p.writes)) (nat_lt 0 (length (checks p)))));
+        next_state = subst (λ z. IsOpenOf None (with_waiting x s_taken) z (next_taken.clients c)) (sym (ran_here ran n run)) (subst (IsOpenOf None (with_waiting x s_taken) run) (sym (here (commit_left p (preparing p 0)))) (begins_at (nat_lt 0 (groups_of p)) (nat_lt 0 (length (checks p)))));
       };
       as_read = noted_commits events c q_taken.event (sys.clients c) x ran (g.as_read c) (next_taken.clients c) s_taken run refl refl (subst (IsMadeSince (events ++ q_taken.event ∷ []) c (Some s_taken)) (sym (here (commit_left p (preparing p 0)))) (commit_made (events ++ q_taken.event ∷ []) c (Some s_taken) p (preparing p 0)));
     })

@@ -1,14 +1,19 @@
 -- A call of a COMMIT leaves it knowing what its next stage needs.
 use Rattle.std.proofs.Common.{◌≡◌, ◌≢◌, ◌≤◌, ◌<◌, ◌+◌, ℕ, ℤ, Bool, true, false, List, [], ◌∷◌, length, Option, Some, None, refl, sym, ap, subst, ◌∙◌, arith, ◌⊎◌, inl, inr, Ok, Err, Result, cond}
 use Rattle.std.specs.Prelude.{slice_get, nat_lt, if◌then◌else◌}
+use Rattle.std.specs.Option.{option_map_or}
 use Rattle.std.specs.Result.{result_ok}
+use Rattle.std.proofs.lemmas.Option.{slice_get_within}
 use Rattle.std.proofs.lemmas.Bool.Decides.{nat_tests}
 use Rattle.law_clients.specs.Types.{Answer, Check, DecidePhase, DecideStep, Decided, Decision, Event, How, Key, Outcome, Record, Reply, Request, Write}
 use Rattle.sdb_types.specs.declared.record.Reply.TheVariants as reply
 use Rattle.sdb_types.specs.declared.record.Request.TheVariants as ask
-use Rattle.sdb_types.specs.Contents.{CanAnswer}
+use Rattle.sdb_types.specs.declared.record.Put.{Put}
+use Rattle.sdb_types.specs.Contents.{CanAnswer, put_at}
+use Rattle.sdb_types.specs.Order.{has_key}
 use Rattle.sdb_record.specs.declared.coordinator.Decision.TheVariants as decision
 use Rattle.sdb_record.specs.Coordinator.{coordinator_key_of, decision_in}
+use Rattle.sdb_record.specs.Groups.{grouped, keys_of_writes}
 use Rattle.sdb_record.proofs.Public.{row-key}
 use Rattle.sdb_model.specs.declared.event.Event.TheVariants as event
 use Rattle.sdb_model.specs.Rows.{Name}
@@ -17,15 +22,18 @@ use Rattle.law_protocol.specs.History.{Other, Prepares, Checks, Decides, Aborts,
 use Rattle.law_protocol.specs.History as laws
 use Rattle.law_protocol.specs.Lawful.{Labelled, id, protocol_state, ack_of, IsObserved, IsRowObserved, IsKnownCommitted, IsKnownAborted, IsBadRow, labelled_with}
 use Rattle.sdb_phases.specs.declared.step.Outcome.TheVariants as outcome
+use Rattle.sdb_phases.specs.declared.step.PrepareStep.TheVariants as prepare
 use Rattle.sdb_phases.specs.declared.step.DecideStep.TheVariants as steps
 use Rattle.sdb_phases.specs.declared.step.DecidePhase.TheVariants as phase
-use Rattle.sdb_phases.specs.Work.{Work, prepares, decide_of, abort_of, look_of}
+use Rattle.sdb_phases.specs.Work.{Work, prepares, decide_of, abort_of, look_of, groups_of, writes_before}
 use Rattle.sdb_phases.specs.Checks.{checks, difference_in}
-use Rattle.sdb_phases.specs.Steps.{step_of_row, followed, refused}
+use Rattle.sdb_phases.specs.Steps.{step_of_row, followed, puts_of, refused}
 use Rattle.sdb_phases.specs.Commit.{Stage, Preparing, Checking, Deciding, Forward, Stopping, Back, Over, step, checking, forward, back, after_prepare, after_check, after_decide}
 use Rattle.sdb_phases.specs.CommitLaws.{as_wished, IsLost}
 use Rattle.law_clients.specs.Owner.{ItemAgrees, WorkOk, CommitOk, StageOk, AreAcknowledged, AskedTo, UnaskedFrom, CheckedTo, AgreesTo, OverOk}
-use Rattle.sdb_types.proofs.Public.{lt_of as less, some_is, tests}
+use Rattle.sdb_phases.proofs.Public.{writes_more}
+use Rattle.law_clients.proofs.Groups.{apart_from_group, in_group, more_before, side, whole}
+use Rattle.sdb_types.proofs.Public.{lt_of as less}
 
 pub by_test : (plan : ℕ → Plan) (past : List Labelled) (p : Work) (b : Bool) (x y : Stage) → (b ≡ true → StageOk plan past p x) → (b ≡ false → StageOk plan past p y) → StageOk plan past p (cond b x y)
 by_test plan past p true x y t f = t refl
@@ -42,44 +50,42 @@ lost_over plan past p outcome.NoMemory l k = k
 
 ---- what one part changes
 
-told_yes : (h : ProtocolState) (t : ℕ) (k q : Key) → (h.answered t q ≡ true) ⊎ (q ≡ k) → (state_after_event h (Prepares t (k ∷ []) Yes)).answered t q ≡ true
-told_yes h t k q a = grind (arith, tests)
+acknowledged_yes : (h : ProtocolState) (t : ℕ) (ks : List Key) (q : Key) → (h.answered t q ≡ true) ⊎ (has_key ks q ≡ true) → (state_after_event h (Prepares t ks Yes)).answered t q ≡ true
+acknowledged_yes h t ks q a = grind (arith, nat_tests)
 
-asked_any : (h : ProtocolState) (t : ℕ) (k q : Key) (word : Ack) → (h.asked t q ≡ true) ⊎ (q ≡ k) → (state_after_event h (Prepares t (k ∷ []) word)).asked t q ≡ true
-asked_any h t k q word a = grind (arith, tests)
+asked_any : (h : ProtocolState) (t : ℕ) (ks : List Key) (q : Key) (word : Ack) → (h.asked t q ≡ true) ⊎ (has_key ks q ≡ true) → (state_after_event h (Prepares t ks word)).asked t q ≡ true
+asked_any h t ks q word a = grind (arith, nat_tests)
 
-asked_other : (h : ProtocolState) (t : ℕ) (k q : Key) (word : Ack) → q ≢ k → (state_after_event h (Prepares t (k ∷ []) word)).asked t q ≡ h.asked t q
-asked_other h t k q word n = grind (arith, tests)
+asked_other : (h : ProtocolState) (t : ℕ) (ks : List Key) (q : Key) (word : Ack) → has_key ks q ≡ false → (state_after_event h (Prepares t ks word)).asked t q ≡ h.asked t q
+asked_other h t ks q word n = grind (arith, nat_tests)
 
 -- i is the last, or before
 earlier : (i j : ℕ) → j < i + 1 → (j < i) ⊎ (j ≡ i)
 earlier i j l = grind (arith, nat_tests)
 
-told_more : (h : ProtocolState) (p : Work) (i : ℕ) (w : Write) → slice_get p.writes i ≡ Some w → AreAcknowledged h p i → AreAcknowledged (state_after_event h (Prepares p.id.0 (w.key ∷ []) Yes)) p (i + 1)
-told_more h p i w here step_of_row j v l at = by (earlier i j l)
+acknowledged_more : (h : ProtocolState) (p : Work) (i : ℕ) (g : List Write) → slice_get (grouped p.writes) i ≡ Some g → AreAcknowledged h p (writes_before p i) → AreAcknowledged (state_after_event h (Prepares p.id.0 (keys_of_writes g) Yes)) p (writes_before p (i + 1))
+acknowledged_more h p i g here before j v l at = by (side (writes_before p i) j)
   where
-    by : (j < i) ⊎ (j ≡ i) → (state_after_event h (Prepares p.id.0 (w.key ∷ []) Yes)).answered p.id.0 v.key ≡ true
-    by (inl b) = told_yes h p.id.0 w.key v.key (inl (step_of_row j v b at))
-    by (inr e) = told_yes h p.id.0 w.key v.key (inr (ap (λ (x : Write). x.key) (some_is v w (sym at ∙ ap (slice_get p.writes) e ∙ here))))
+    by : (j < writes_before p i) ⊎ (writes_before p i ≤ j) → (state_after_event h (Prepares p.id.0 (keys_of_writes g) Yes)).answered p.id.0 v.key ≡ true
+    by (inl b) = acknowledged_yes h p.id.0 (keys_of_writes g) v.key (inl (before j v b at))
+    by (inr n) = acknowledged_yes h p.id.0 (keys_of_writes g) v.key (inr (in_group p i g here j v n l at))
 
-asked_more : (h : ProtocolState) (p : Work) (i : ℕ) (w : Write) (word : Ack) → slice_get p.writes i ≡ Some w → AskedTo h p i → AskedTo (state_after_event h (Prepares p.id.0 (w.key ∷ []) word)) p (i + 1)
-asked_more h p i w word here asked j v l at = by (earlier i j l)
+asked_more : (h : ProtocolState) (p : Work) (i : ℕ) (g : List Write) (word : Ack) → slice_get (grouped p.writes) i ≡ Some g → AskedTo h p (writes_before p i) → AskedTo (state_after_event h (Prepares p.id.0 (keys_of_writes g) word)) p (writes_before p (i + 1))
+asked_more h p i g word here asked j v l at = by (side (writes_before p i) j)
   where
-    by : (j < i) ⊎ (j ≡ i) → (state_after_event h (Prepares p.id.0 (w.key ∷ []) word)).asked p.id.0 v.key ≡ true
-    by (inl b) = asked_any h p.id.0 w.key v.key word (inl (asked j v b at))
-    by (inr e) = asked_any h p.id.0 w.key v.key word (inr (ap (λ (x : Write). x.key) (some_is v w (sym at ∙ ap (slice_get p.writes) e ∙ here))))
+    by : (j < writes_before p i) ⊎ (writes_before p i ≤ j) → (state_after_event h (Prepares p.id.0 (keys_of_writes g) word)).asked p.id.0 v.key ≡ true
+    by (inl b) = asked_any h p.id.0 (keys_of_writes g) v.key word (inl (asked j v b at))
+    by (inr n) = asked_any h p.id.0 (keys_of_writes g) v.key word (inr (in_group p i g here j v n l at))
 
 asked_less : (h : ProtocolState) (p : Work) (m n : ℕ) → m ≤ n → AskedTo h p n → AskedTo h p m
 asked_less h p m n l asked j v b at = asked j v (omega arith) at
 
-unasked_more : (h : ProtocolState) (p : Work) (i : ℕ) (w : Write) (word : Ack) → WorkOk p → slice_get p.writes i ≡ Some w → UnaskedFrom h p i → UnaskedFrom (state_after_event h (Prepares p.id.0 (w.key ∷ []) word)) p (i + 1)
-unasked_more h p i w word work here un j v l at = asked_other h p.id.0 w.key v.key word (work.apart i j w v (omega arith) here at) ∙ un j v (omega arith) at
-
-whole : {A : Type 0} (step_of_row : ℕ → A → Type 0) (xs : List A) (i : ℕ) → nat_lt (i + 1) (length xs) ≡ false → ((j : ℕ) (w : A) → j < i + 1 → slice_get xs j ≡ Some w → step_of_row j w) → (j : ℕ) (w : A) → j < length xs → slice_get xs j ≡ Some w → step_of_row j w
-whole step_of_row xs i e all j w l at = all j w (less (length xs) l e) at
+unasked_more : (h : ProtocolState) (p : Work) (i : ℕ) (g : List Write) (word : Ack) → WorkOk p → slice_get (grouped p.writes) i ≡ Some g → UnaskedFrom h p (writes_before p i) → UnaskedFrom (state_after_event h (Prepares p.id.0 (keys_of_writes g) word)) p (writes_before p (i + 1))
+unasked_more h p i g word work here un j v l at =
+    asked_other h p.id.0 (keys_of_writes g) v.key word (apart_from_group p i g here work.once j v at (inr l)) ∙ un j v (later (writes_before p i) (length g) (more_before p i g here)) at
   where
-    less : (n : ℕ) → j < n → nat_lt (i + 1) n ≡ false → j < i + 1
-    less n l e = grind (arith, nat_tests)
+    later : (m n : ℕ) → m + n ≡ writes_before p (i + 1) → m ≤ j
+    later m n e = omega (arith, e, l)
 
 ---- prepares
 
@@ -101,43 +107,59 @@ checks_begin plan past p stage step_of_row asked safe = by_test plan past p (nat
 pub not_deciding : (s : laws.Stage) → s ≡ laws.Preparing → s ≢ laws.Deciding
 not_deciding s e d = absurd (cc)
 
-pub prepare_kept : (plan : ℕ → Plan) (past : List Labelled) (c i : ℕ) (p : Work) (w : Write) (e : Event) (r : Reply) → CommitOk plan past c p (Preparing i) → slice_get p.writes i ≡ Some w
-    → StageOk plan (labelled_with (Prepares p.id.0 (w.key ∷ []) (ack_of r)) e ∷ past) p (step p (Preparing i) r)
-prepare_kept plan past c i p w e reply.Applied ok here = by_more (nat_lt (i + 1) (length p.writes)) refl
+pub prepare_kept : (plan : ℕ → Plan) (past : List Labelled) (c i : ℕ) (p : Work) (g : List Write) (e : Event) (r : Reply) → CommitOk plan past c p (Preparing i) → slice_get (grouped p.writes) i ≡ Some g
+    → StageOk plan (labelled_with (Prepares p.id.0 (keys_of_writes g) (ack_of r)) e ∷ past) p (step p (Preparing i) r)
+prepare_kept plan past c i p g e r ok here = by r
   where
-    h : ProtocolState
-    h = state_after_event (protocol_state past) (Prepares p.id.0 (w.key ∷ []) Yes)
+    n : ℕ
+    n = writes_before p i
 
-    step_of_row : AreAcknowledged h p (i + 1)
-    step_of_row = told_more (protocol_state past) p i w here ok.stage.1
+    now : Reply → List Labelled
+    now x = labelled_with (Prepares p.id.0 (keys_of_writes g) (ack_of x)) e ∷ past
 
-    asked : AskedTo h p (i + 1)
-    asked = asked_more (protocol_state past) p i w Yes here ok.stage.2
+    asked : (x : Reply) → AskedTo (protocol_state (now x)) p (writes_before p (i + 1))
+    asked x = asked_more (protocol_state past) p i g (ack_of x) here ok.stage.2
 
-    by_more : (more : Bool) → nat_lt (i + 1) (length p.writes) ≡ more → StageOk plan (labelled_with (Prepares p.id.0 (w.key ∷ []) Yes) e ∷ past) p (after_prepare p i (i + 1) (if more then Rattle.sdb_phases.specs.declared.step.PrepareStep.TheVariants.More else Rattle.sdb_phases.specs.declared.step.PrepareStep.TheVariants.Done))
-    by_more true t = (ok.stage.0, step_of_row, asked, unasked_more (protocol_state past) p i w Yes ok.work here ok.stage.3, ok.stage.4)
-    by_more false f = checks_begin plan (labelled_with (Prepares p.id.0 (w.key ∷ []) Yes) e ∷ past) p (not_deciding ((protocol_state past).stage p.id.0) ok.stage.0)
-        (whole (λ j w. h.answered p.id.0 w.key ≡ true) p.writes i f step_of_row)
-        (whole (λ j w. h.asked p.id.0 w.key ≡ true) p.writes i f asked)
+    stop : (x : Reply) (a : Outcome) → IsLost a → StageOk plan (now x) p (Stopping a n)
+    stop x a lost = stops plan (now x) p n (writes_before p (i + 1)) a (fewer n (length g) (more_before p i g here)) lost (asked x) ok.stage.4
+      where
+        fewer : (m k : ℕ) → m + k ≡ writes_before p (i + 1) → m ≤ writes_before p (i + 1)
+        fewer m k same = omega (arith, same)
+
+    -- the writes of the prepare
+    more : n + puts_of (slice_get (prepares p) i) ≡ writes_before p (i + 1)
+    more = writes_more p i (slice_get_within (grouped p.writes) i g here)
+
+    refusal : (x : Reply) (o : Option Request) (k : ℕ) (found : Option Record) → StageOk plan (now x) p (after_prepare p i n (refused o k found))
+    refusal x None k found = stop x outcome.NoMemory tt
+    refusal x (Some (ask.Get key)) k found = stop x outcome.NoMemory tt
+    refusal x (Some (ask.Scan span)) k found = stop x outcome.NoMemory tt
+    refusal x (Some (ask.PutIf rec condition)) k found = stop x (outcome.Conflict rec.key found) tt
+    refusal x (Some (ask.DeleteIf key condition)) k found = stop x outcome.NoMemory tt
+    refusal x (Some (ask.PutAll batch)) k found = at (put_at batch k)
+      where
+        at : (o : Option Put) → StageOk plan (now x) p (after_prepare p i n (option_map_or (λ (y : Put). prepare.Conflict y.rec.key found) o prepare.NoMemory))
+        at None = stop x outcome.NoMemory tt
+        at (Some y) = stop x (outcome.Conflict y.rec.key found) tt
+
+    acknowledged : AreAcknowledged (protocol_state (now reply.Applied)) p (writes_before p (i + 1))
+    acknowledged = acknowledged_more (protocol_state past) p i g here ok.stage.1
+
+    applied : (b : Bool) → nat_lt (i + 1) (groups_of p) ≡ b → StageOk plan (now reply.Applied) p (after_prepare p i (n + puts_of (slice_get (prepares p) i)) (if b then prepare.More else prepare.Done))
+    applied true t = (ok.stage.0, acknowledged, asked reply.Applied, unasked_more (protocol_state past) p i g Yes ok.work here ok.stage.3, ok.stage.4)
+    applied false f = checks_begin plan (now reply.Applied) p (not_deciding ((protocol_state past).stage p.id.0) ok.stage.0)
+        (subst (AreAcknowledged (protocol_state (now reply.Applied)) p) (whole p i f) acknowledged)
+        (subst (AskedTo (protocol_state (now reply.Applied)) p) (whole p i f) (asked reply.Applied))
         ok.stage.4
-prepare_kept plan past c i p w e (reply.NotMet found) ok here = by (slice_get (prepares p) i)
-  where
-    h : ProtocolState
-    h = state_after_event (protocol_state past) (Prepares p.id.0 (w.key ∷ []) No)
 
-    at : (a : Outcome) → IsLost a → StageOk plan (labelled_with (Prepares p.id.0 (w.key ∷ []) No) e ∷ past) p (Stopping a i)
-    at a lost = stops plan (labelled_with (Prepares p.id.0 (w.key ∷ []) No) e ∷ past) p i (i + 1) a (omega arith) lost (asked_more (protocol_state past) p i w No here ok.stage.2) ok.stage.4
-
-    by : (o : Option Request) → StageOk plan (labelled_with (Prepares p.id.0 (w.key ∷ []) No) e ∷ past) p (after_prepare p i i (refused o found))
-    by None = at outcome.NoMemory tt
-    by (Some (ask.Get key)) = at outcome.NoMemory tt
-    by (Some (ask.Scan span)) = at outcome.NoMemory tt
-    by (Some (ask.PutIf rec condition)) = at (outcome.Conflict rec.key found) tt
-    by (Some (ask.DeleteIf key condition)) = at outcome.NoMemory tt
-prepare_kept plan past c i p w e reply.Fault ok here = stops plan (labelled_with (Prepares p.id.0 (w.key ∷ []) NoAck) e ∷ past) p (i + 1) (i + 1) outcome.Faulted (omega arith) tt (asked_more (protocol_state past) p i w NoAck here ok.stage.2) ok.stage.4
-prepare_kept plan past c i p w e reply.NoMemory ok here = stops plan (labelled_with (Prepares p.id.0 (w.key ∷ []) OutOfMemory) e ∷ past) p i (i + 1) outcome.NoMemory (omega arith) tt (asked_more (protocol_state past) p i w OutOfMemory here ok.stage.2) ok.stage.4
-prepare_kept plan past c i p w e (reply.Found found) ok here = stops plan (labelled_with (Prepares p.id.0 (w.key ∷ []) NoAck) e ∷ past) p i (i + 1) outcome.NoMemory (omega arith) tt (asked_more (protocol_state past) p i w NoAck here ok.stage.2) ok.stage.4
-prepare_kept plan past c i p w e (reply.Rows rows) ok here = stops plan (labelled_with (Prepares p.id.0 (w.key ∷ []) NoAck) e ∷ past) p i (i + 1) outcome.NoMemory (omega arith) tt (asked_more (protocol_state past) p i w NoAck here ok.stage.2) ok.stage.4
+    by : (x : Reply) → StageOk plan (now x) p (step p (Preparing i) x)
+    by reply.Applied = applied (nat_lt (i + 1) (groups_of p)) refl
+    by (reply.NotMet found) = refusal (reply.NotMet found) (slice_get (prepares p) i) 1 found
+    by (reply.NotAll k found) = refusal (reply.NotAll k found) (slice_get (prepares p) i) k found
+    by reply.Fault = subst (λ m. StageOk plan (now reply.Fault) p (Stopping outcome.Faulted m)) (sym more) (asked reply.Fault, ok.stage.4, tt)
+    by reply.NoMemory = stop reply.NoMemory outcome.NoMemory tt
+    by (reply.Found found) = stop (reply.Found found) outcome.NoMemory tt
+    by (reply.Rows rows) = stop (reply.Rows rows) outcome.NoMemory tt
 
 ---- decisions
 
@@ -146,7 +168,7 @@ abbrev RowIn : List Labelled → Work → Record → Type 0
 RowIn past p row = IsObserved past row × (row.key ≡ coordinator_key_of p.id)
 
 goes_forward : (plan : ℕ → Plan) (past : List Labelled) (p : Work) → AskedTo (protocol_state past) p (length p.writes) → IsKnownCommitted plan past p.id.0 p.now → StageOk plan past p (forward p 0)
-goes_forward plan past p asked known = by_test plan past p (nat_lt 0 (length p.writes)) (Forward 0) (Over outcome.Committed) (λ t. (asked, known)) (λ f. known)
+goes_forward plan past p asked known = by_test plan past p (nat_lt 0 (groups_of p)) (Forward 0) (Over outcome.Committed) (λ t. (asked, known)) (λ f. known)
 
 goes_back : (plan : ℕ → Plan) (past : List Labelled) (p : Work) (a : Outcome) (n : ℕ) → IsLost a → AskedTo (protocol_state past) p n → IsKnownAborted past p.id.0 → StageOk plan past p (back a n 0)
 goes_back plan past p a n lost asked known = by_test plan past p (nat_lt 0 n) (Back a n 0) (Over a) (λ t. (asked, known, lost, less 0 n t)) (λ f. lost_over plan past p a lost (inl known))
@@ -182,6 +204,7 @@ decide_kept plan past c p store how reply.Fault a ok can = ok.stage.1
 decide_kept plan past c p store how reply.NoMemory a ok can = (ok.stage.1, ok.stage.4, tt)
 decide_kept plan past c p store how (reply.Found found) a ok can = absurd can
 decide_kept plan past c p store how (reply.Rows rows) a ok can = absurd can
+decide_kept plan past c p store how (reply.NotAll place there) a ok can = absurd can
 
 pub look_kept : (plan : ℕ → Plan) (past : List Labelled) (c : ℕ) (p : Work) (store : Name) (how : How) (r : Reply) (a : Option Answer) → CommitOk plan past c p (Deciding phase.Look) → CanAnswer (look_of p.id) r
     → StageOk plan (labelled_with Other (event.Call c store (look_of p.id) how r a) ∷ past) p (step p (Deciding phase.Look) r)
@@ -192,6 +215,7 @@ look_kept plan past c p store how reply.NoMemory a ok can = refl
 look_kept plan past c p store how reply.Applied a ok can = refl
 look_kept plan past c p store how (reply.NotMet found) a ok can = refl
 look_kept plan past c p store how (reply.Rows rows) a ok can = refl
+look_kept plan past c p store how (reply.NotAll place there) a ok can = refl
 
 dead : (h : ProtocolState) (t : ℕ) (m : ℤ) → (state_after_event h (Aborts t m Yes)).dead t ≡ true
 dead h t m = grind (arith, nat_tests)
@@ -208,6 +232,7 @@ abort_kept plan past c p store how reply.Fault a ok can = ok.stage
 abort_kept plan past c p store how reply.NoMemory a ok can = refl
 abort_kept plan past c p store how (reply.Found found) a ok can = refl
 abort_kept plan past c p store how (reply.Rows rows) a ok can = refl
+abort_kept plan past c p store how (reply.NotAll place there) a ok can = refl
 
 pub again_kept : (plan : ℕ → Plan) (past : List Labelled) (c : ℕ) (p : Work) (store : Name) (how : How) (r : Reply) (a : Option Answer) → CommitOk plan past c p (Deciding phase.Again) → CanAnswer (look_of p.id) r
     → StageOk plan (labelled_with Other (event.Call c store (look_of p.id) how r a) ∷ past) p (step p (Deciding phase.Again) r)
@@ -218,6 +243,7 @@ again_kept plan past c p store how reply.NoMemory a ok can = refl
 again_kept plan past c p store how reply.Applied a ok can = refl
 again_kept plan past c p store how (reply.NotMet found) a ok can = refl
 again_kept plan past c p store how (reply.Rows rows) a ok can = refl
+again_kept plan past c p store how (reply.NotAll place there) a ok can = refl
 
 ---- a stop
 
@@ -228,6 +254,7 @@ stop_kept plan past c n b p e reply.Fault ok = lost_over plan (labelled_with (Ab
 stop_kept plan past c n b p e reply.NoMemory ok = lost_over plan (labelled_with (Aborts p.id.0 p.now OutOfMemory) e ∷ past) p b ok.stage.2 (inr (inl ok.stage.1))
 stop_kept plan past c n b p e (reply.Found found) ok = lost_over plan (labelled_with (Aborts p.id.0 p.now NoAck) e ∷ past) p b ok.stage.2 (inr (inl ok.stage.1))
 stop_kept plan past c n b p e (reply.Rows rows) ok = lost_over plan (labelled_with (Aborts p.id.0 p.now NoAck) e ∷ past) p b ok.stage.2 (inr (inl ok.stage.1))
+stop_kept plan past c n b p e (reply.NotAll place there) ok = lost_over plan (labelled_with (Aborts p.id.0 p.now No) e ∷ past) p b ok.stage.2 (inr (inl ok.stage.1))
 
 ---- rolls
 
@@ -235,13 +262,13 @@ stop_kept plan past c n b p e (reply.Rows rows) ok = lost_over plan (labelled_wi
 pub row_later : (q : Labelled) (past : List Labelled) (t : ℕ) (d : Decision) (m : ℤ) → IsRowObserved past t d m → IsRowObserved (q ∷ past) t d m
 row_later q past t d m x = record { row = x.row; observed = inr x.observed; key = x.key; says = x.says }
 
-pub forward_kept : (plan : ℕ → Plan) (past : List Labelled) (c i : ℕ) (p : Work) (k : Key) (e : Event) (r : Reply) → CommitOk plan past c p (Forward i) → StageOk plan (labelled_with (Rolls p.id.0 (k ∷ []) decision.Committed) e ∷ past) p (step p (Forward i) r)
-forward_kept plan past c i p k e r ok = by_test plan (labelled_with (Rolls p.id.0 (k ∷ []) decision.Committed) e ∷ past) p (nat_lt (i + 1) (length p.writes)) (Forward (i + 1)) (Over outcome.Committed) (λ t. (ok.stage.0, known ok.stage.1)) (λ f. known ok.stage.1)
+pub forward_kept : (plan : ℕ → Plan) (past : List Labelled) (c i : ℕ) (p : Work) (ks : List Key) (e : Event) (r : Reply) → CommitOk plan past c p (Forward i) → StageOk plan (labelled_with (Rolls p.id.0 ks decision.Committed) e ∷ past) p (step p (Forward i) r)
+forward_kept plan past c i p ks e r ok = by_test plan (labelled_with (Rolls p.id.0 ks decision.Committed) e ∷ past) p (nat_lt (i + 1) (groups_of p)) (Forward (i + 1)) (Over outcome.Committed) (λ t. (ok.stage.0, known ok.stage.1)) (λ f. known ok.stage.1)
   where
-    known : IsKnownCommitted plan past p.id.0 p.now → IsKnownCommitted plan (labelled_with (Rolls p.id.0 (k ∷ []) decision.Committed) e ∷ past) p.id.0 p.now
-    known (inl x) = inl (row_later (labelled_with (Rolls p.id.0 (k ∷ []) decision.Committed) e) past p.id.0 decision.Committed p.now x)
+    known : IsKnownCommitted plan past p.id.0 p.now → IsKnownCommitted plan (labelled_with (Rolls p.id.0 ks decision.Committed) e ∷ past) p.id.0 p.now
+    known (inl x) = inl (row_later (labelled_with (Rolls p.id.0 ks decision.Committed) e) past p.id.0 decision.Committed p.now x)
     known (inr (inl x)) = inr (inl x)
-    known (inr (inr x)) = inr (inr (x.0, (x.1.0, row_later (labelled_with (Rolls p.id.0 (k ∷ []) decision.Committed) e) past p.id.0 decision.Committed x.1.0 x.1.1), x.2))
+    known (inr (inr x)) = inr (inr (x.0, (x.1.0, row_later (labelled_with (Rolls p.id.0 ks decision.Committed) e) past p.id.0 decision.Committed x.1.0 x.1.1), x.2))
 
 pub back_kept : (plan : ℕ → Plan) (past : List Labelled) (c i n : ℕ) (b : Outcome) (p : Work) (k : Key) (e : Event) (r : Reply) → CommitOk plan past c p (Back b n i) → StageOk plan (labelled_with (Rolls p.id.0 (k ∷ []) decision.Aborted) e ∷ past) p (step p (Back b n i) r)
 back_kept plan past c i n b p k e r ok = by_test plan (labelled_with (Rolls p.id.0 (k ∷ []) decision.Aborted) e ∷ past) p (nat_lt (i + 1) n) (Back b n (i + 1)) (Over b) (λ t. (ok.stage.0, known ok.stage.1, ok.stage.2, less (i + 1) n t)) (λ f. lost_over plan (labelled_with (Rolls p.id.0 (k ∷ []) decision.Aborted) e ∷ past) p b ok.stage.2 (inl (known ok.stage.1)))

@@ -1,5 +1,6 @@
 mod Lists
 mod Meta
+mod Groups
 mod Own
 mod Kept
 mod Reading

@@ -47,6 +47,7 @@ answered_same (reply.Found (Some r)) = settle_same [] (r ∷ [])
 answered_same (reply.Rows rows) = settle_same [] rows
 answered_same reply.Applied = refl
 answered_same (reply.NotMet found) = refl
+answered_same (reply.NotAll place there) = refl
 answered_same reply.Fault = refl
 answered_same reply.NoMemory = refl
 

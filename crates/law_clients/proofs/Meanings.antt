@@ -19,7 +19,7 @@ use Rattle.sdb_types.specs.Exact.{equal_of}
 use Rattle.sdb_types.specs.Order.{key_cmp, same_key}
 use Rattle.sdb_types.specs.TxId.{id_text}
 use Rattle.sdb_types.specs.ValueLaws.{value_total}
-use Rattle.sdb_types.proofs.Public.{all_each, and_false, key_exact, key_total, less_of, none_some, some_is}
+use Rattle.sdb_types.proofs.Public.{all_each, and_false, false_true, key_exact, key_total, less_of, none_some, some_is}
 use Rattle.sdb_record.specs.Meta.{checked, checked_before, checked_part, id_in, id_in_value, is_committed, is_in, is_misnamed, is_unresolved, refuse, state_in, state_in_value, with_before}
 use Rattle.sdb_record.specs.Parts.{before_part, before_record, is_before_pair}
 use Rattle.sdb_record.specs.Rolls.{forward_record, undo}
@@ -95,12 +95,13 @@ other_key : (r : Record) (m : StoreCall) (k : Key) → key_asked m.request ≡ S
 other_key r m k e less = ap (λ o. option_map_or (λ x. is_eq (key_cmp x r.key)) o false && option_map_or (λ c. holds c (Some r)) (condition_asked m.request) false) e ∙ ap (λ o. is_eq o && option_map_or (λ c. holds c (Some r)) (condition_asked m.request) false) less
 
 -- what a call that rolls a record puts is at its key
-put_key : (r : Record) (q : Request) (o : Option Record) → option_map_or (λ k. is_eq (key_cmp k r.key)) (key_asked q) false ≡ true → put_by q ≡ o → IfSome o (λ b. b.key ≡ r.key)
-put_key r q None asks puts = tt
-put_key r (ask.PutIf rec c) (Some b) asks puts = ap (λ (x : Record). x.key) (sym (some_is rec b puts)) ∙ key_exact rec.key r.key (equal_of _ asks)
-put_key r (ask.DeleteIf key c) (Some b) asks puts = none_some b puts
-put_key r (ask.Get key) (Some b) asks puts = none_some b puts
-put_key r (ask.Scan span) (Some b) asks puts = none_some b puts
+put_key : (r : Record) (q : Request) (o : Option Record) → option_map_or (λ k. is_eq (key_cmp k r.key)) (key_asked q) false ≡ true → option_map_or (λ c. holds c (Some r)) (condition_asked q) false ≡ true → put_by q ≡ o → IfSome o (λ b. b.key ≡ r.key)
+put_key r q None asks on puts = tt
+put_key r (ask.PutIf rec c) (Some b) asks on puts = ap (λ (x : Record). x.key) (sym (some_is rec b puts)) ∙ key_exact rec.key r.key (equal_of _ asks)
+put_key r (ask.DeleteIf key c) (Some b) asks on puts = none_some b puts
+put_key r (ask.PutAll batch) (Some b) asks on puts = false_true on
+put_key r (ask.Get key) (Some b) asks on puts = none_some b puts
+put_key r (ask.Scan span) (Some b) asks on puts = none_some b puts
 
 found_holds : (p : StoreCall → Bool) (calls : List StoreCall) (m : StoreCall) → find p calls ≡ Some m → p m ≡ true
 found_holds p [] m e = none_some m e
@@ -116,7 +117,7 @@ meaning_key calls r = by (is_in state.Committed r.columns)
   where
     rolled : (o : Option StoreCall) → find (rolls r) calls ≡ o → IfSome (option_and_then (λ m. put_by m.request) o) (λ b. b.key ≡ r.key)
     rolled None e = tt
-    rolled (Some m) e = put_key r m.request (put_by m.request) (and_parts (asks_key r m) _ (found_holds (rolls r) calls m e)).0 refl
+    rolled (Some m) e = let both = and_parts (asks_key r m) _ (found_holds (rolls r) calls m e) in put_key r m.request (put_by m.request) both.0 both.1 refl
 
     by : (b : Bool) → IfSome (if b then Some r else option_and_then (λ m. put_by m.request) (find (rolls r) calls)) (λ b. b.key ≡ r.key)
     by true = refl
@@ -264,12 +265,14 @@ module _ (rec : Record) (meta : Meta) (open_still : is_unresolved rec ≡ true) 
   goes_on_unrolled (phase.Abort n) now r e goes x = abort_rolls_none n (asked_at (abort_of meta.id n) e) x
   goes_on_unrolled (phase.Forward n) now (reply.Found found) e goes x = absurd (cc)
   goes_on_unrolled (phase.Forward n) now (reply.Rows rows) e goes x = absurd (cc)
+  goes_on_unrolled (phase.Forward n) now (reply.NotAll place there) e goes x = absurd (cc)
   goes_on_unrolled (phase.Forward n) now reply.Applied e goes x = absurd (cc)
   goes_on_unrolled (phase.Forward n) now (reply.NotMet found) e goes x = absurd (cc)
   goes_on_unrolled (phase.Forward n) now reply.Fault e goes x = absurd (cc)
   goes_on_unrolled (phase.Forward n) now reply.NoMemory e goes x = absurd (cc)
   goes_on_unrolled phase.Back now (reply.Found found) e goes x = absurd (cc)
   goes_on_unrolled phase.Back now (reply.Rows rows) e goes x = absurd (cc)
+  goes_on_unrolled phase.Back now (reply.NotAll place there) e goes x = absurd (cc)
   goes_on_unrolled phase.Back now reply.Applied e goes x = absurd (cc)
   goes_on_unrolled phase.Back now (reply.NotMet found) e goes x = absurd (cc)
   goes_on_unrolled phase.Back now reply.Fault e goes x = absurd (cc)

@@ -198,6 +198,7 @@ asked_made m a (reply.Found (Some x)) is can = settle_made (m ∷ []) a [] (x �
 asked_made m a (reply.Rows rows) is can = settle_made (m ∷ []) a [] rows (rows_made m a (reply.Rows rows) rows is can refl (scan_rises a rows can))
 asked_made m a reply.Applied is can = tt
 asked_made m a (reply.NotMet found) is can = tt
+asked_made m a (reply.NotAll place there) is can = tt
 asked_made m a reply.Fault is can = tt
 asked_made m a reply.NoMemory is can = tt
 
@@ -228,12 +229,14 @@ note_is ms a images made = ap (λ q. read_item_of ms q made.first.reply) made.as
     by (access.Get key) (reply.Rows rows) can e = absurd can
     by (access.Get key) reply.Applied can e = absurd can
     by (access.Get key) (reply.NotMet found) can e = absurd can
+    by (access.Get key) (reply.NotAll place there) can e = absurd can
     by (access.Get key) reply.Fault can e = absurd (cc (e))
     by (access.Get key) reply.NoMemory can e = absurd (cc (e))
     by (access.Scan span) (reply.Rows rows) can e = ap (λ found. Some (SpanRead (record { span = span; found = found }))) (reads_meant ms rows ∙ ap reads_of (are rows e))
     by (access.Scan span) (reply.Found found) can e = absurd can
     by (access.Scan span) reply.Applied can e = absurd can
     by (access.Scan span) (reply.NotMet found) can e = absurd can
+    by (access.Scan span) (reply.NotAll place there) can e = absurd can
     by (access.Scan span) reply.Fault can e = absurd (cc (e))
     by (access.Scan span) reply.NoMemory can e = absurd (cc (e))
 

@@ -1,5 +1,5 @@
 -- A call of a recovery is one that the rules of the protocol let through, and its image is a record that a read may come to.
-use Rattle.std.proofs.Common.{◌≡◌, ℕ, ℤ, true, List, ◌∷◌, Option, Some, None, refl, sym, ap, subst, ◌∙◌, arith, inl, inr, Ok, Result}
+use Rattle.std.proofs.Common.{◌≡◌, ℕ, ℤ, true, List, [], ◌∷◌, Option, Some, None, refl, sym, ap, subst, ◌∙◌, arith, inl, inr, Ok, Result}
 use Rattle.std.proofs.lemmas.Bool.Decides.{nat_tests}
 use Rattle.law_clients.specs.Types.{Answer, Decided, Decision, How, Key, Meta, Record, RecoverPhase, RecoverStep, Reply, Request}
 use Rattle.sdb_types.specs.declared.record.Reply.TheVariants as reply
@@ -28,9 +28,8 @@ use Rattle.sdb_txn.proofs.Public.{decided_at}
 held : (past : List Labelled) (rec : Record) (meta : Meta) (p : RecoverPhase) → RecoverOk past rec meta p → IsPreparedObserved past meta.id.0 rec.key rec
 held past rec meta p ok = record { observed = ok.observed; key = refl; held = ok.of.held; writer = ok.of.writer }
 
-abbrev rolls : (plan : ℕ → Plan) (past : List Labelled) (c : ℕ) (rec : Record) (meta : Meta) (p : RecoverPhase) (store : Name) (q : Request) (how : How) (r : Reply) (a : Option Answer) → RecoverOk past rec meta p
-    → MayRoll plan past (event.Call c store q how r a) meta.id.0 rec.key
-rolls plan past c rec meta p store q how r a ok = record { client = c; rolled = rec; s = meta.state; r = r; is_open = ok.of.is_open; outside = ok.outside; prepared = inl (held past rec meta p ok) }
+rolls : (plan : ℕ → Plan) (past : List Labelled) (rec : Record) (meta : Meta) (p : RecoverPhase) → RecoverOk past rec meta p → MayRoll plan past meta.id.0 rec.key rec meta.state
+rolls plan past rec meta p ok = record { is_open = ok.of.is_open; outside = ok.outside; prepared = inl (held past rec meta p ok) }
 
 learned : (past : List Labelled) (t : ℕ) → IsLearnedAborted past t → IsKnownAborted past t
 learned past t (inl x) = inl x
@@ -50,13 +49,23 @@ recover_lawful plan past c rec meta (phase.Abort moment) store q how r a ok e = 
   moment_is = ok.phase;
 }
 recover_lawful plan past c rec meta (phase.Forward at) store q how r a ok e = record {
-  roll = rolls plan past c rec meta (phase.Forward at) store q how r a ok;
+  client = c;
+  rolled = (rec, meta.state) ∷ [];
+  r = r;
+  keys = refl;
+  some = omega arith;
+  once_each = refl;
+  each = (rolls plan past rec meta (phase.Forward at) ok, tt);
   moment = at;
   known = inl ok.phase.0;
   call = record { store = store; how = how; answer = a; call = ap (λ x. event.Call c store x how r a) (some_is q (recover_forward rec meta at) (sym e)) };
 }
 recover_lawful plan past c rec meta phase.Back store q how r a ok e = record {
-  roll = rolls plan past c rec meta phase.Back store q how r a ok;
+  client = c;
+  rolled = rec;
+  s = meta.state;
+  r = r;
+  roll = rolls plan past rec meta phase.Back ok;
   known = learned past meta.id.0 ok.phase;
   call = record { store = store; how = how; answer = a; call = ap (λ x. event.Call c store x how r a) (some_is q (recover_back rec meta) (sym e)) };
 }

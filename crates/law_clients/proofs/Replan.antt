@@ -2,16 +2,18 @@
 use Rattle.std.proofs.Common.{◌≡◌, ℕ, ℤ, true, false, List, [], ◌∷◌, Option, Some, None, refl, sym, ap, subst, ◌∙◌, arith, inl, inr}
 use Rattle.std.specs.Option.{option_map}
 use Rattle.std.proofs.lemmas.Bool.Decides.{nat_tests}
-use Rattle.law_clients.specs.Types.{Event, Key, Record}
+use Rattle.std.specs.List.{AllByRecursion}
+use Rattle.law_clients.specs.Types.{Event, Key, Record, State, Write}
 use Rattle.sdb_record.specs.declared.coordinator.Decision.TheVariants as decision
+use Rattle.sdb_record.specs.Puts.{prepares_of}
 use Rattle.sdb_model.specs.declared.event.Event.TheVariants as event
 use Rattle.law_protocol.specs.Plan.{Plan, write_at, written, version_read_at}
 use Rattle.law_protocol.specs.History.{Action, Other, Begins, Takes, Prepares, Checks, Decides, Aborts, Rolls, Removes, Ends, Stops, ProtocolState, Ack, state_after_event}
-use Rattle.law_protocol.specs.Lawful.{Labelled, protocol_state, ended, id, IsLawful, IsEnabled, MayOccur, MayTake, MayPrepare, MayCheck, MayDecide, MayRoll, IsUnchanged, IsPreparedThere, IsKnownCommitted}
+use Rattle.law_protocol.specs.Lawful.{Labelled, protocol_state, ended, id, IsLawful, IsEnabled, MayOccur, MayTake, MayPrepare, MayCheck, MayDecide, MayRoll, MayRollForward, IsCallOf, IsUnchanged, IsPreparedThere, IsKnownCommitted}
 use Rattle.law_protocol.proofs.Public.{occurs_by}
 use Rattle.law_clients.specs.System.{SamePlans}
 use Rattle.law_clients.proofs.Delayed.{IsUnanswered, delayed_unanswered}
-use Rattle.sdb_types.proofs.Public.{clash, decides as is_taken, tests}
+use Rattle.sdb_types.proofs.Public.{all_each, clash, decides as is_taken, tests}
 
 -- before its COMMIT is accepted nothing is said of a transaction's calls
 pub record Unsaid (h : ProtocolState) (t : ℕ) : Type 0 where
@@ -37,9 +39,7 @@ after_played : (plan : ℕ → Plan) (past : List Labelled) (e : Event) (r : Act
 after_played plan past e Other m = tt
 after_played plan past e (Begins t c) m = tt
 after_played plan past e (Takes t) m = tt
-after_played plan past e (Prepares t [] word) m = absurd m
-after_played plan past e (Prepares t (k ∷ []) word) m = m.within.accepted
-after_played plan past e (Prepares t (k ∷ l ∷ ks) word) m = absurd m
+after_played plan past e (Prepares t ks word) m = m.within.accepted
 after_played plan past e (Checks t i) m = tt
 after_played plan past e (Decides t word) m = m.within.accepted
 after_played plan past e (Aborts t n word) m = tt
@@ -85,8 +85,8 @@ prepared_there plan other past t k r l same (inr x) = elim (is_taken ((protocol_
   | inr n ↦ clash (sym x.0 ∙ (unsaid plan past t l).asked k n)
 ]
 
-abbrev roll_other : (plan other : ℕ → Plan) (past : List Labelled) (e : Event) (t : ℕ) (k : Key) → IsLawful plan past → SamePlans plan other past → MayRoll plan past e t k → MayRoll other past e t k
-roll_other plan other past e t k l same m = record { client = m.client; rolled = m.rolled; s = m.s; r = m.r; is_open = m.is_open; outside = m.outside; prepared = prepared_there plan other past t k m.rolled l same m.prepared }
+roll_other : (plan other : ℕ → Plan) (past : List Labelled) (t : ℕ) (k : Key) (r : Record) (x : State) → IsLawful plan past → SamePlans plan other past → MayRoll plan past t k r x → MayRoll other past t k r x
+roll_other plan other past t k r x l same m = record { is_open = m.is_open; outside = m.outside; prepared = prepared_there plan other past t k r l same m.prepared }
 
 known_other : (plan other : ℕ → Plan) (past : List Labelled) (t : ℕ) (m : ℤ) → IsLawful plan past → SamePlans plan other past → IsKnownCommitted plan past t m → IsKnownCommitted other past t m
 known_other plan other past t m l same (inl x) = inl x
@@ -115,17 +115,34 @@ take_other plan other past e t same m = record {
   tables = λ i k v at. m.tables i k v (ap (λ (p : Plan). version_read_at p i k) same ∙ at);
 }
 
-prepare_other : (plan other : ℕ → Plan) (past : List Labelled) (e : Event) (t : ℕ) (k : Key) (word : Ack) → plan t ≡ other t → MayPrepare plan past e t k word → MayPrepare other past e t k word
-prepare_other plan other past e t k word same m = record {
+prepare_other : (plan other : ℕ → Plan) (past : List Labelled) (e : Event) (t : ℕ) (ks : List Key) (word : Ack) → plan t ≡ other t → MayPrepare plan past e t ks word → MayPrepare other past e t ks word
+prepare_other plan other past e t ks word same m = record {
   client = m.client;
-  write = m.write;
+  group = m.group;
   r = m.r;
   within = m.within;
-  at = ap (λ (p : Plan). write_at p k) (sym same) ∙ m.at;
-  call = subst (λ (p : Plan). Rattle.law_protocol.specs.Lawful.IsCallOf e m.client (Rattle.sdb_types.specs.declared.record.Request.TheVariants.PutIf (Rattle.sdb_record.specs.Rolls.prepared_record m.write (id t) p.now) (Rattle.sdb_record.specs.Moved.condition_of (Rattle.sdb_record.specs.Moved.version_of m.write.base))) m.r) same m.call;
+  keys = m.keys;
+  some = m.some;
+  once_each = m.once_each;
+  each = subst (λ (p : Plan). AllByRecursion (λ (w : Write). write_at p w.key ≡ Some w) m.group) same m.each;
+  call = subst (λ (p : Plan). IsCallOf e m.client (prepares_of (id t) p.now m.group) m.r) same m.call;
   word_is = m.word_is;
   stage = m.stage;
   once = m.once;
+}
+
+forward_other : (plan other : ℕ → Plan) (past : List Labelled) (e : Event) (t : ℕ) (ks : List Key) → IsLawful plan past → SamePlans plan other past → MayRollForward plan past e t ks → MayRollForward other past e t ks
+forward_other plan other past e t ks l same m = record {
+  client = m.client;
+  rolled = m.rolled;
+  r = m.r;
+  keys = m.keys;
+  some = m.some;
+  once_each = m.once_each;
+  each = all_each (λ (x : Record × State). MayRoll plan past t x.0.key x.0 x.1) (λ (x : Record × State). MayRoll other past t x.0.key x.0 x.1) m.rolled (λ x may. roll_other plan other past t x.0.key x.0 x.1 l same may) m.each;
+  moment = m.moment;
+  known = known_other plan other past t m.moment l same m.known;
+  call = m.call;
 }
 
 check_other : (plan other : ℕ → Plan) (past : List Labelled) (e : Event) (t i : ℕ) → plan t ≡ other t → MayCheck plan past e t i → MayCheck other past e t i
@@ -168,16 +185,14 @@ play_other : (plan other : ℕ → Plan) (past : List Labelled) (e : Event) (r :
 play_other plan other past e Other l same m = m
 play_other plan other past e (Begins t c) l same m = m
 play_other plan other past e (Takes t) l same m = take_other plan other past e t (same t (taken_now (protocol_state past) t)) m
-play_other plan other past e (Prepares t [] word) l same m = m
-play_other plan other past e (Prepares t (k ∷ q ∷ ks) word) l same m = m
-play_other plan other past e (Prepares t (k ∷ []) word) l same m = prepare_other plan other past e t k word (same t m.within.accepted) m
+play_other plan other past e (Prepares t ks word) l same m = prepare_other plan other past e t ks word (same t m.within.accepted) m
 play_other plan other past e (Checks t i) l same m = check_other plan other past e t i (same t m.within.accepted) m
 play_other plan other past e (Decides t word) l same m = decide_other plan other past e t word (same t m.within.accepted) m
 play_other plan other past e (Aborts t n word) l same m = m
-play_other plan other past e (Rolls t [] d) l same m = m
-play_other plan other past e (Rolls t (k ∷ q ∷ ks) d) l same m = m
-play_other plan other past e (Rolls t (k ∷ []) decision.Committed) l same m = record { roll = roll_other plan other past e t k l same m.roll; moment = m.moment; known = known_other plan other past t m.moment l same m.known; call = m.call }
-play_other plan other past e (Rolls t (k ∷ []) decision.Aborted) l same m = record { roll = roll_other plan other past e t k l same m.roll; known = m.known; call = m.call }
+play_other plan other past e (Rolls t ks decision.Committed) l same m = forward_other plan other past e t ks l same m
+play_other plan other past e (Rolls t [] decision.Aborted) l same m = m
+play_other plan other past e (Rolls t (k ∷ []) decision.Aborted) l same m = record { client = m.client; rolled = m.rolled; s = m.s; r = m.r; roll = roll_other plan other past t k m.rolled m.s l same m.roll; known = m.known; call = m.call }
+play_other plan other past e (Rolls t (k ∷ q ∷ ks) decision.Aborted) l same m = m
 play_other plan other past e (Removes k t) l same m = m
 play_other plan other past e (Ends t) l same m = m
 play_other plan other past e (Stops c) l same m = m

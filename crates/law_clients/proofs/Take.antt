@@ -1,5 +1,5 @@
 -- The taking of a COMMIT keeps what is so of all clients, with the plan that it brings.
-use Rattle.std.proofs.Common.{◌≡◌, ◌≢◌, ◌<◌, ℕ, ℤ, Bool, true, false, List, ◌∷◌, length, map, Option, Some, None, refl, sym, ap, subst, ◌∙◌, arith, inl, inr}
+use Rattle.std.proofs.Common.{◌≡◌, ◌≢◌, ◌≤◌, ◌<◌, ℕ, ℤ, Bool, true, false, List, ◌∷◌, length, map, Option, Some, None, refl, sym, ap, subst, ◌∙◌, arith, inl, inr}
 use Rattle.std.specs.Prelude.{slice_get, nat_lt, filter, not, if◌then◌else◌, ◌==◌}
 use Rattle.std.specs.List.{AllByRecursion}
 use Rattle.std.specs.Option.{option_map}
@@ -8,6 +8,8 @@ use Rattle.law_clients.specs.Types.{Key, Outcome, Read, Record, TxId, Write}
 use Rattle.sdb_types.specs.Contents.{in_span}
 use Rattle.sdb_record.specs.Meta.{id_in, is_moment}
 use Rattle.sdb_record.specs.Among.{version_among, is_written}
+use Rattle.sdb_record.specs.Groups.{grouped}
+use Rattle.sdb_record.proofs.Public.{in_groups_length, place_of_grouped, taken_all}
 use Rattle.sdb_model.specs.ReadSet.{ReadItem, KeyRead, SpanRead, version_read}
 use Rattle.sdb_model.specs.declared.answer.Answer.TheVariants as answer
 use Rattle.sdb_model.specs.declared.event.Event.TheVariants as event
@@ -19,7 +21,7 @@ use Rattle.law_protocol.specs.Lawful.{Labelled, id, protocol_state, IsSettled, I
 use Rattle.law_protocol.proofs.Public.{write_key}
 use Rattle.sdb_phases.specs.declared.step.DecidePhase.TheVariants as phase
 use Rattle.sdb_phases.specs.declared.step.Outcome.TheVariants as outcome
-use Rattle.sdb_phases.specs.Work.{Work}
+use Rattle.sdb_phases.specs.Work.{Work, groups_of}
 use Rattle.sdb_phases.specs.Checks.{checks}
 use Rattle.sdb_phases.specs.Commit.{Stage, Preparing, Checking, Deciding, Forward, Stopping, Back, Over, preparing, checking}
 use Rattle.sdb_snapshot.specs.Seen.{Seen}
@@ -103,7 +105,7 @@ take_lawful plan past c p text o ok settled commit = record {
   fresh = o.fresh;
   moment = ap (λ (x : Plan). Rattle.sdb_record.specs.Meta.is_moment x.now) (plan_here plan p) ∙ ok.moment;
   writes = λ k w h. let e = here k w h in let f = (work_ok p ok).found k w e in let valid = (work_ok p ok).valid f.0 w f.1 in (valid.0, subst (λ x. is_data x ≡ true) (write_key (plan_of p) k w e) valid.1);
-  bases = λ k w b h is. let e = here k w h in let f = (work_ok p ok).found k w e in subst (λ x. IsSettled past x b) (write_key (plan_of p) k w e) (each_at (λ w. (b : Record) → w.base ≡ Some b → IsSettled past w.key b) p.writes f.0 w settled.bases f.1 b is);
+  bases = λ k w b h is. let e = here k w h in let f = (work_ok p ok).found k w e in subst (λ x. IsSettled past x b) (write_key (plan_of p) k w e) (each_at (λ w. (b : Record) → w.base ≡ Some b → IsSettled past w.key b) p.writes (place_of_grouped p.writes f.0 w f.1).0 w settled.bases (place_of_grouped p.writes f.0 w f.1).1 b is);
   read_set = λ i k u h. (noted_settled past p i k (Some u) settled (noted_here i k (Some u) h)).1 u refl;
   tables = λ i k v h. (noted_settled past p i k v settled (noted_here i k v h)).0;
 }
@@ -120,12 +122,16 @@ nothing_before : {A : Type 0} (j : ℕ) → j < 0 → A
 nothing_before j l = absurd (omega arith)
 
 begins_at : (plan : ℕ → Plan) (past : List Labelled) (p : Work) → (protocol_state past).stage p.id.0 ≡ laws.Preparing → ((k : Key) → (protocol_state past).asked p.id.0 k ≡ false) → (protocol_state past).risked p.id.0 ≡ false → StageOk plan past p (preparing p 0)
-begins_at plan past p stage unasked safe = by_test plan past p (nat_lt 0 (length p.writes)) (Preparing 0) (checking p 0)
+begins_at plan past p stage unasked safe = by_test plan past p (nat_lt 0 (groups_of p)) (Preparing 0) (checking p 0)
     (λ t. (stage, λ j w l at. nothing_before j l, λ j w l at. nothing_before j l, λ j w l at. unasked w.key, safe))
-    (λ f. checks_begin plan past p (not_deciding ((protocol_state past).stage p.id.0) stage) (λ j w l at. nothing_before j (none j (length p.writes) l f)) (λ j w l at. nothing_before j (none j (length p.writes) l f)) safe)
+    (λ f. checks_begin plan past p (not_deciding ((protocol_state past).stage p.id.0) stage) (λ j w l at. nothing_before j (none j l f)) (λ j w l at. nothing_before j (none j l f)) safe)
   where
-    none : (j n : ℕ) → j < n → nat_lt 0 n ≡ false → j < 0
-    none j n l f = grind (arith, nat_tests)
+    no_groups : (n : ℕ) → nat_lt 0 n ≡ false → n ≤ 0
+    no_groups n f = grind (arith, nat_tests)
+
+    -- without a group there is no write
+    none : (j : ℕ) → j < length p.writes → nat_lt 0 (groups_of p) ≡ false → j < 0
+    none j l f = subst (λ n. j < n) (sym (in_groups_length p.writes) ∙ sym (taken_all (grouped p.writes) 0 (no_groups (groups_of p) f))) l
 
 ---- other clients, under the new plan
 
@@ -177,7 +183,7 @@ system_replanned plan other past sys same ok = record {
 
 -- a COMMIT that begins is not over
 begun_has : (p : Work) (u : ℕ) → p.id.0 ≡ u → Has (commit_left p (preparing p 0)) u
-begun_has p u h = by (nat_lt 0 (length p.writes)) (nat_lt 0 (length (checks p)))
+begun_has p u h = by (nat_lt 0 (groups_of p)) (nat_lt 0 (length (checks p)))
   where
     by : (a b : Bool) → Has (commit_left p (if a then Preparing 0 else if b then Checking 0 else Deciding phase.Put)) u
     by true b = h

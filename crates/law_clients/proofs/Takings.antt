@@ -3,7 +3,7 @@ use Rattle.law_clients.specs.Types.{Access, Answer, Key, Keyed, PlanStep, Refusa
 use Rattle.sdb_model.specs.Access.{rows_at}
 use Rattle.law_clients.proofs.Keys.{keys_changed, keys_more, keys_with, many_is}
 use Rattle.law_clients.specs.Keys.{is_too_many, keys_of_body, keys_written, pass_with, passes_most, with_keys}
-use Rattle.std.proofs.Common.{◌≡◌, ℕ, ℤ, Bool, true, false, List, [], ◌∷◌, Option, Some, None, Result, Ok, Err, inr, refl, sym, ap, subst, ◌∙◌, length, arith, map, ◌++◌}
+use Rattle.std.proofs.Common.{◌≡◌, ◌≤◌, ◌<◌, ℕ, ℤ, Bool, true, false, List, [], ◌∷◌, Option, Some, None, Result, Ok, Err, inr, refl, sym, ap, subst, ◌∙◌, length, arith, map, ◌++◌}
 use Rattle.std.specs.Prelude.{◌&&◌, ◌||◌, is_some, nat_lt, if◌then◌else◌}
 use Rattle.std.specs.Option.{option_map}
 use Rattle.std.specs.List.{AllByRecursion, list_any}
@@ -31,7 +31,9 @@ use Rattle.sdb_exec.proofs.Public.{named_is_table, own}
 use Rattle.sdb_phases.specs.Checks.{checks}
 use Rattle.sdb_phases.specs.Commit.{Checking, Deciding, Preparing, checking, preparing}
 use Rattle.sdb_phases.specs.declared.step.DecidePhase.TheVariants as phase
-use Rattle.sdb_phases.specs.Work.{Work}
+use Rattle.sdb_record.specs.Groups.{grouped}
+use Rattle.sdb_record.proofs.Public.{in_groups_length, place_of_grouped, taken_all}
+use Rattle.sdb_phases.specs.Work.{Work, groups_of}
 use Rattle.sdb_txn.specs.Read.{Asking, request_of}
 use Rattle.sdb_snapshot.specs.Rows.{with_own}
 use Rattle.sdb_snapshot.specs.Seen.{Seen, nothing, overlay, with_written}
@@ -163,17 +165,23 @@ nothing_seen catalog g = record {
 
 -- a COMMIT begins with its first call
 commit_begins : (catalog : List Table) (start : Database) (p : Work) → WorkAlone catalog start p → CommitAlone catalog start p start (preparing p 0)
-commit_begins catalog start p work = record { work = work; others = λ k free other. refl; stage = by (nat_lt 0 (length p.writes)) refl }
+commit_begins catalog start p work = record { work = work; others = λ k free other. refl; stage = by (nat_lt 0 (groups_of p)) refl }
   where
-    none : nat_lt 0 (length p.writes) ≡ false → EachWrite p (IsPrepared p) start
-    none e j w at = absurd (let within = slice_get_within p.writes j w at in grind (arith, nat_tests))
+    no_groups : (n : ℕ) → nat_lt 0 n ≡ false → n ≤ 0
+    no_groups n f = grind (arith, nat_tests)
 
-    to_checks : nat_lt 0 (length p.writes) ≡ false → (b : Bool) → StageAlone p start (if b then Checking 0 else Deciding phase.Put)
+    -- without a group there is no write
+    none : nat_lt 0 (groups_of p) ≡ false → EachWrite p (IsPrepared p) start
+    none e j w at =
+        let within = subst (λ n. j < n) (sym (in_groups_length p.writes) ∙ sym (taken_all (grouped p.writes) 0 (no_groups (groups_of p) e))) (slice_get_within p.writes j w at) in
+        absurd (omega (arith, within))
+
+    to_checks : nat_lt 0 (groups_of p) ≡ false → (b : Bool) → StageAlone p start (if b then Checking 0 else Deciding phase.Put)
     to_checks e true = (work.fresh, none e)
     to_checks e false = (work.fresh, none e)
 
-    by : (b : Bool) → nat_lt 0 (length p.writes) ≡ b → StageAlone p start (if b then Preparing 0 else checking p 0)
-    by true e = (work.fresh, record { below = λ j w less at. absurd (omega arith); from = λ j w more at. (each_at (IsBaseCurrent catalog start) p.writes j w work.writes at).base })
+    by : (b : Bool) → nat_lt 0 (groups_of p) ≡ b → StageAlone p start (if b then Preparing 0 else checking p 0)
+    by true e = (work.fresh, record { below = λ j w less at. absurd (omega arith); from = λ j w more at. let place = place_of_grouped p.writes j w at in (each_at (IsBaseCurrent catalog start) p.writes place.0 w work.writes place.1).base })
     by false e = to_checks e (nat_lt 0 (length (checks p)))
 
 -- a VACUUM begins with all tables of the catalog

@@ -61,6 +61,7 @@ answered_leads ss n (reply.Rows rows) = going_leads ss n rows
 answered_leads ss n (reply.Found found) = tt
 answered_leads ss n reply.Applied = tt
 answered_leads ss n (reply.NotMet found) = tt
+answered_leads ss n (reply.NotAll place there) = tt
 answered_leads ss n reply.Fault = tt
 answered_leads ss n reply.NoMemory = tt
 
@@ -85,6 +86,7 @@ removal_leads ss n left reply.Applied = going_leads ss (n + 1) left
 removal_leads ss n left (reply.NotMet found) = going_leads ss n left
 removal_leads ss n left (reply.Found found) = tt
 removal_leads ss n left (reply.Rows rows) = tt
+removal_leads ss n left (reply.NotAll place there) = tt
 removal_leads ss n left reply.Fault = tt
 removal_leads ss n left reply.NoMemory = tt
 
@@ -115,6 +117,7 @@ module _ (P : Span → Type 0) where
   answered_are ss n (reply.Found found) h = h
   answered_are ss n reply.Applied h = h
   answered_are ss n (reply.NotMet found) h = h
+  answered_are ss n (reply.NotAll place there) h = h
   answered_are ss n reply.Fault h = h
   answered_are ss n reply.NoMemory h = h
 
@@ -139,6 +142,7 @@ module _ (P : Span → Type 0) where
   removal_are ss n left (reply.NotMet found) h = going_are ss n (machine.first_of left) h
   removal_are ss n left (reply.Found found) h = h
   removal_are ss n left (reply.Rows rows) h = h
+  removal_are ss n left (reply.NotAll place there) h = h
   removal_are ss n left reply.Fault h = h
   removal_are ss n left reply.NoMemory h = h
 

@@ -1,5 +1,5 @@
 -- What a transaction takes into its COMMIT is a plan of the protocol, and its checks are of the plan's notes.
-use Rattle.std.proofs.Common.{◌≡◌, ◌≢◌, ◌≤◌, ◌<◌, ℕ, zero, suc, Bool, true, false, List, [], ◌∷◌, ◌++◌, length, map, Option, Some, None, refl, sym, ap, subst, ◌∙◌, arith, ◌⊎◌, inl, inr}
+use Rattle.std.proofs.Common.{◌≡◌, ◌≢◌, ◌≤◌, ℕ, zero, suc, Bool, true, false, List, [], ◌∷◌, ◌++◌, length, map, Option, Some, None, refl, sym, ap, subst, ◌∙◌, arith, ◌⊎◌, inl, inr}
 use Rattle.std.specs.Prelude.{slice_get, is_some, filter, not, ◌==◌, if◌then◌else◌}
 use Rattle.std.specs.List.{AllByRecursion}
 use Rattle.std.specs.Option.{option_map, option_and_then}
@@ -12,6 +12,8 @@ use Rattle.sdb_types.specs.declared.record.Request.TheVariants as ask
 use Rattle.sdb_types.specs.Contents.{CanAnswer, in_span, rise, record_among}
 use Rattle.sdb_record.specs.Moved.{version_of, same_version, is_unchanged}
 use Rattle.sdb_record.specs.Rolls.{IsWrite}
+use Rattle.sdb_record.proofs.Public.{groups_once, place_in_groups, place_of_grouped}
+use Rattle.sdb_txn.proofs.Public.{keys_differ}
 use Rattle.sdb_record.specs.Among.{version_among, write_among, is_written}
 use Rattle.law_protocol.specs.Plan.{write_at, written, version_read_at, number_of}
 use Rattle.sdb_model.specs.ReadSet.{ReadItem, KeyRead, SpanRead, version_read}
@@ -192,6 +194,7 @@ got_tells p i rd reply.NoMemory at free can more = absurd (cc)
 got_tells p i rd reply.Applied at free can more = absurd can
 got_tells p i rd (reply.NotMet found) at free can more = absurd can
 got_tells p i rd (reply.Rows rows) at free can more = absurd can
+got_tells p i rd (reply.NotAll place there) at free can more = absurd can
 got_tells p i rd (reply.Found found) at free can more = record { item = KeyRead rd; at = at; unchanged = (found, refl, refl, by (is_unchanged found rd.version) refl more); agrees = got_agrees p i rd at free }
   where
     by : (b : Bool) → is_unchanged found rd.version ≡ b → is_more (judged true (changed b rd.key found)) ≡ true → is_unchanged found rd.version ≡ true
@@ -223,6 +226,7 @@ scan_tells p i s reply.Fault at found can more = absurd (cc)
 scan_tells p i s reply.NoMemory at found can more = absurd (cc)
 scan_tells p i s reply.Applied at found can more = absurd can
 scan_tells p i s (reply.NotMet x) at found can more = absurd can
+scan_tells p i s (reply.NotAll place there) at found can more = absurd can
 scan_tells p i s (reply.Found x) at found can more = absurd can
 scan_tells p i s (reply.Rows rows) at found can more =
     let kept = scan_kept p s rows found (rises (rise rows) _ can) more in
@@ -248,15 +252,6 @@ unwritten_other (x ∷ xs) (suc i) k w free at = unwritten_other xs i k w (rest 
     rest : (b : Bool) → is_some (if b then Some x else write_among xs k) ≡ false → is_written xs k ≡ false
     rest true e = absurd (cc)
     rest false e = e
-
-once_apart : (ws : List Write) (i j : ℕ) (v w : Write) → HaveKeysOnce ws → i < j → slice_get ws i ≡ Some v → slice_get ws j ≡ Some w → w.key ≢ v.key
-once_apart [] i j v w once l at there = some_apart v at
-once_apart (x ∷ xs) i zero v w once l at there = absurd (omega arith)
-once_apart (x ∷ xs) zero (suc j) v w once l at there = subst (λ k. w.key ≢ k) (key_is x v at) (unwritten_other xs j x.key w once.0 there)
-  where
-    key_is : (x v : Write) → Some x ≡ Some v → x.key ≡ v.key
-    key_is x v e = cc
-once_apart (x ∷ xs) (suc i) (suc j) v w once l at there = once_apart xs i j v w once.1 (omega arith) at there
 
 once_at : (ws : List Write) (i : ℕ) (w : Write) → HaveKeysOnce ws → slice_get ws i ≡ Some w → write_among ws w.key ≡ Some w
 once_at [] i w once at = some_apart w at
@@ -311,10 +306,10 @@ unfolding write_at
 work_ok p ok = record {
   fits = ok.fits;
   moment = ok.moment;
-  valid = λ i w at. each_at (λ w. IsWrite w × (is_data w.key ≡ true)) p.writes i w ok.valid at;
-  at = λ i w at. once_at p.writes i w ok.once at;
-  apart = λ i j v w l at there. once_apart p.writes i j v w ok.once l at there;
-  found = λ k w h. found_at p.writes k w h;
+  valid = λ i w at. let f = place_of_grouped p.writes i w at in each_at (λ w. IsWrite w × (is_data w.key ≡ true)) p.writes f.0 w ok.valid f.1;
+  at = λ i w at. let f = place_of_grouped p.writes i w at in once_at p.writes f.0 w ok.once f.1;
+  once = groups_once p.writes (keys_differ p.writes ok.once);
+  found = λ k w h. let f = found_at p.writes k w h in place_in_groups p.writes f.0 w f.1;
   reads = λ i c h. let n = note_of p i c h in subst (λ x. IsReading x.request) n.2 (reading p.writes n.0);
   is_known = λ i c r h can passed. let n = note_of p i c h in
       subst (λ x. CanAnswer x.request r → is_more (validate_step true (Some x) r) ≡ true → CheckPasses p i x.request r) n.2 (tells_at p i n.0 r (at_front (checked_items p) (own_items p) i n.0 n.1) (each_at (IsCheckedNote p.writes) (checked_items p) i n.0 (checked_notes_are p ok) n.1)) can (ap (λ o. is_more (validate_step true o r)) (sym h) ∙ passed);

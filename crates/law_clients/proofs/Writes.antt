@@ -1,28 +1,30 @@
 -- The keys that a COMMIT writes, after a call.
-use Rattle.std.proofs.Common.{◌≡◌, ◌≢◌, ◌<◌, ℕ, zero, suc, Bool, true, false, List, [], ◌∷◌, Option, Some, None, ◌⊎◌, inl, inr, refl, sym, ap, subst, ◌∙◌, arith}
+use Rattle.std.proofs.Common.{◌≡◌, ◌≢◌, ◌<◌, ℕ, zero, suc, Bool, true, false, List, [], ◌∷◌, map, Option, Some, None, ◌⊎◌, inl, inr, refl, sym, ap, subst, ◌∙◌, arith}
 use Rattle.std.specs.Prelude.{slice_get, is_some, if◌then◌else◌}
 use Rattle.std.specs.Prelude.{is_ok, Result, Ok, Err}
 use Rattle.std.specs.Ordering.{is_eq}
 use Rattle.std.specs.Cmp.{tied_itself}
-use Rattle.law_clients.specs.Types.{Key, Meta, Record, Table, TxId, Value, Write}
+use Rattle.law_clients.specs.Types.{Key, Meta, Record, Reply, Table, TxId, Value, Write}
+use Rattle.sdb_types.specs.declared.record.Put.{Put}
 use Rattle.sdb_types.specs.declared.value.Value.TheVariants as value
 use Rattle.sdb_types.specs.Columns.{column}
 use Rattle.sdb_types.specs.TxId.{id_text}
 use Rattle.sdb_types.specs.ValueLaws.{value_total}
 use Rattle.sdb_types.specs.declared.record.State.TheVariants as state
-use Rattle.sdb_types.specs.Contents.{has_value, holds, tx_id}
-use Rattle.sdb_types.specs.Order.{same_key}
-use Rattle.sdb_types.proofs.Public.{and_both, and_second, false_true, none_some, same_key_self, same_key_decides}
+use Rattle.sdb_types.specs.Contents.{has_value, holds, left_at, put_keys, sent, tx_id}
+use Rattle.sdb_types.specs.Order.{are_distinct, has_key, same_key}
+use Rattle.sdb_types.proofs.Public.{and_both, and_second, and_true, false_true, left_outside, none_some, once_parts, same_key_self, same_key_decides}
 use Rattle.sdb_record.specs.Among.{is_written, write_among}
 use Rattle.sdb_record.specs.Coordinator.{coordinator_key_of, is_coordinator_table}
 use Rattle.sdb_record.specs.Meta.{checked, id_in, id_in_value, is_in, is_transactional}
 use Rattle.sdb_record.specs.Parts.{are_stored}
-use Rattle.sdb_record.proofs.Public.{accepted, id_of_text-is}
+use Rattle.sdb_record.specs.Groups.{keys_of_writes}
+use Rattle.sdb_record.proofs.Public.{accepted, apart_at, id_of_text-is, write_of_key}
 use Rattle.sdb_record.specs.Moved.{condition_of, version_of}
 use Rattle.sdb_phases.specs.Work.{Work}
 use Rattle.sdb_snapshot.specs.Written.{HaveKeysOnce}
 use Rattle.law_clients.proofs.Lists.{each_at}
-use Rattle.law_clients.specs.Database.{Database, IsWith, is_committed_or_none}
+use Rattle.law_clients.specs.Database.{Called, Database, IsWith, Same, TookEffect, are_met, is_committed_or_none, with_batch}
 use Rattle.law_clients.specs.OnlyResolves.{IsApart}
 use Rattle.law_clients.specs.Commits.{EachWrite, OthersUnchanged, WorkAlone, IsBaseCurrent}
 use Rattle.law_clients.proofs.ReadRecords.{coordinators}
@@ -44,12 +46,6 @@ unwritten_other (x ∷ xs) (suc i) k w free at = unwritten_other xs i k w (rest 
     rest : (b : Bool) → is_some (if b then Some x else write_among xs k) ≡ false → is_written xs k ≡ false
     rest true e = absurd (cc)
     rest false e = e
-
-pub once_apart : (ws : List Write) (i j : ℕ) (v w : Write) → HaveKeysOnce ws → i < j → slice_get ws i ≡ Some v → slice_get ws j ≡ Some w → w.key ≢ v.key
-once_apart [] i j v w once l at there = none_some v at
-once_apart (x ∷ xs) i zero v w once l at there = absurd (omega arith)
-once_apart (x ∷ xs) zero (suc j) v w once l at there = subst (λ k. w.key ≢ k) (ap (λ (y : Write). y.key) (write_is x v at)) (unwritten_other xs j x.key w once.0 there)
-once_apart (x ∷ xs) (suc i) (suc j) v w once l at there = once_apart xs i j v w once.1 (omega arith) at there
 
 pub once_at : (ws : List Write) (i : ℕ) (w : Write) → HaveKeysOnce ws → slice_get ws i ≡ Some w → write_among ws w.key ≡ Some w
 once_at [] i w once at = none_some w at
@@ -103,6 +99,44 @@ taken_id r is_write = by (checked r.columns) refl (and_second (are_stored r.colu
 pub version_holds : (o : Option Record) → is_committed_or_none o ≡ true → ((r : Record) → o ≡ Some r → is_transactional r ≡ true) → holds (condition_of (version_of o)) o ≡ true
 version_holds None firm is_write = refl
 version_holds (Some r) firm is_write = firm_holds r (is_write r refl) firm
+
+---- the puts of several writes
+
+module _ (f : Write → Put) (same : (w : Write) → (f w).rec.key ≡ w.key) where
+  puts_keys : (ws : List Write) → put_keys (map f ws) ≡ keys_of_writes ws
+  puts_keys [] = refl
+  puts_keys (w ∷ ws) = λ i. same w i ∷ puts_keys ws i
+
+  -- what they leave elsewhere
+  pub left_aside : (ws : List Write) (q : Key) (old : Option Record) → has_key (keys_of_writes ws) q ≡ false → left_at (map f ws) q old ≡ old
+  left_aside ws q old free = left_outside (map f ws) q old (ap (λ ks. has_key ks q) (puts_keys ws) ∙ free)
+
+  -- and at the key of each
+  pub left_there : (ws : List Write) (i : ℕ) (w : Write) (old : Option Record) → are_distinct (keys_of_writes ws) ≡ true → slice_get ws i ≡ Some w → left_at (map f ws) w.key old ≡ Some (f w).rec
+  left_there [] i w old once at = none_some w at
+  left_there (x ∷ xs) zero w old once at =
+      ap (λ b. if b then Some (f x).rec else left_at (map f xs) w.key old) (ap (same_key w.key) (same x ∙ ap (λ (y : Write). y.key) (write_is x w at)) ∙ same_key_self w.key) ∙ ap (λ (y : Write). Some (f y).rec) (write_is x w at)
+  left_there (x ∷ xs) (suc i) w old once at =
+      ap (λ b. if b then Some (f x).rec else left_at (map f xs) w.key old) (ap (same_key w.key) (same x) ∙ other (same_key_decides w.key x.key))
+      ∙ left_there xs i w old (once_parts (has_key (keys_of_writes xs) x.key) (are_distinct (keys_of_writes xs)) once).1 at
+    where
+      first : 0 < suc i
+      first = omega arith
+
+      other : ((same_key w.key x.key ≡ true) × (w.key ≡ x.key)) ⊎ ((same_key w.key x.key ≡ false) × (w.key ≢ x.key)) → same_key w.key x.key ≡ false
+      other (inl e) = absurd (apart_at (x ∷ xs) zero (suc i) x w once first refl at e.1)
+      other (inr n) = n.0
+
+  -- each condition holds
+  pub all_met : (g : Database) (ws : List Write) → ((i : ℕ) (w : Write) → slice_get ws i ≡ Some w → holds (f w).condition (g (f w).rec.key) ≡ true) → are_met (map f ws) g ≡ true
+  all_met g [] each = refl
+  all_met g (w ∷ ws) each = and_both (holds (f w).condition (g (f w).rec.key)) (are_met (map f ws) g) (each zero w refl) (all_met g ws (λ i v at. each (suc i) v at))
+
+-- What a call of some puts does: it puts them all, or nothing.
+pub sent_called : (ps : List Put) (r : Reply) (g h : Database) → Called (sent ps) r g h → (are_met ps g ≡ true → TookEffect (with_batch ps g) r g h) × (are_met ps g ≡ false → Same g h)
+sent_called [] r g h c = c
+sent_called (p ∷ []) r g h c = (λ met. c.0 (sym (and_true (holds p.condition (g p.rec.key))) ∙ met), λ fails. c.1 (sym (and_true (holds p.condition (g p.rec.key))) ∙ fails))
+sent_called (p ∷ q ∷ ps) r g h c = c
 
 ---- one change
 
@@ -160,3 +194,40 @@ module _ (catalog : List Table) (apart : IsApart catalog) (start : Database) (p 
               let one : w ≡ v = write_is w v (sym (once_at p.writes i w work.once at) ∙ ap (write_among p.writes) (sym e.1) ∙ once_at p.writes j v work.once there_at) in
               subst (λ x. P x (h x.key)) one (subst (P w) (sym there) here)
           by (inr n) = subst (P v) (sym (now v.key ∙ ap (λ b. if b then new else g v.key) n.0)) (each j v there_at)
+
+    -- a change at the keys of a group
+    module _ (ws : List Write) (f : Write → Put) (same : (w : Write) → (f w).rec.key ≡ w.key) (once : are_distinct (keys_of_writes ws) ≡ true) (own : (i : ℕ) (w : Write) → slice_get ws i ≡ Some w → (j : ℕ) × (slice_get p.writes j ≡ Some w)) (now : Same (with_batch (map f ws) g) h) where
+      pub group_aside : (k : Key) → has_key (keys_of_writes ws) k ≡ false → h k ≡ g k
+      group_aside k free = now k ∙ left_aside f same ws k (g k) free
+
+      pub group_there : (i : ℕ) (w : Write) → slice_get ws i ≡ Some w → h w.key ≡ Some (f w).rec
+      group_there i w at = now w.key ∙ left_there f same ws i w (g w.key) once at
+
+      -- a key that no write has
+      other_key : (k : Key) → ((j : ℕ) (w : Write) → slice_get p.writes j ≡ Some w → w.key ≢ k) → h k ≡ g k
+      other_key k others = group_aside k (by (has_key (keys_of_writes ws) k) refl)
+        where
+          by : (b : Bool) → has_key (keys_of_writes ws) k ≡ b → b ≡ false
+          by false e = refl
+          by true e =
+              let found = write_of_key ws k e in
+              let mine = own found.0 found.1.0 found.1.1.0 in
+              absurd (others mine.0 found.1.0 mine.1 found.1.1.1)
+
+      pub group_row : h row ≡ g row
+      group_row = other_key row (λ j w at e. false_true (sym (not_row j w at) ∙ ap (λ k. same_key k row) e ∙ same_key_self row))
+
+      pub group_others : OthersUnchanged p start g → OthersUnchanged p start h
+      group_others others k free other = other_key k (λ j w at e. false_true (sym free ∙ ap (is_written p.writes) (sym e) ∙ ap is_some (once_at p.writes j w work.once at))) ∙ others k free other
+
+      pub each_group : (P : Write → Option Record → Type 0) → ((w : Write) → P w (Some (f w).rec)) → EachWrite p P g → EachWrite p P h
+      each_group P here each j v at = by (has_key (keys_of_writes ws) v.key) refl
+        where
+          by : (b : Bool) → has_key (keys_of_writes ws) v.key ≡ b → P v (h v.key)
+          by false e = subst (P v) (sym (group_aside v.key e)) (each j v at)
+          by true e =
+              let found = write_of_key ws v.key e in
+              let w = found.1.0 in
+              let mine = own found.0 w found.1.1.0 in
+              let one : w ≡ v = write_is w v (sym (once_at p.writes mine.0 w work.once mine.1) ∙ ap (write_among p.writes) found.1.1.1 ∙ once_at p.writes j v work.once at) in
+              subst (λ x. P x (h x.key)) one (subst (P w) (sym (group_there found.0 w found.1.1.0)) (here w))

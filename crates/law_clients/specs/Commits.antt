@@ -7,12 +7,13 @@ use Rattle.sdb_types.specs.Order.{same_key}
 use Rattle.sdb_types.specs.Contents.{in_span}
 use Rattle.sdb_record.specs.Among.{is_written, version_among}
 use Rattle.sdb_record.specs.Coordinator.{coordinator_key_of}
+use Rattle.sdb_record.specs.Groups.{in_groups}
 use Rattle.sdb_record.specs.Meta.{id_in, is_in, is_moment}
 use Rattle.sdb_record.specs.Moved.{version_of}
 use Rattle.sdb_record.specs.Rolls.{IsWrite, forward_record, prepared_record}
 use Rattle.sdb_phases.specs.declared.step.Outcome.TheVariants as outcome
 use Rattle.sdb_phases.specs.declared.step.DecidePhase.TheVariants as phase
-use Rattle.sdb_phases.specs.Work.{Work}
+use Rattle.sdb_phases.specs.Work.{Work, writes_before}
 use Rattle.sdb_phases.specs.Commit.{Stage, Preparing, Checking, Deciding, Forward, Stopping, Back, Over}
 use Rattle.sdb_snapshot.specs.Written.{HaveKeysOnce}
 use Rattle.sdb_validate.specs.Rescan.{reads_rise}
@@ -70,10 +71,10 @@ IsLoose p w o = IsBased p w o ⊎ IsPrepared p w o
 abbrev pub IsWon : Work → Write → Option Record → Type 0
 IsWon p w o = IsPrepared p w o ⊎ (o ≡ Some (forward_record (prepared_record w p.id p.now) p.now))
 
--- the first so many are prepared, and the others as they were
+-- the first so many, in the order of the groups, are prepared, and the others as they were
 pub record ArePrepared (p : Work) (n : ℕ) (g : Database) : Type 0 where
-  pub below : (j : ℕ) (w : Write) → j < n → slice_get p.writes j ≡ Some w → IsPrepared p w (g w.key)
-  pub from : (j : ℕ) (w : Write) → n ≤ j → slice_get p.writes j ≡ Some w → IsBased p w (g w.key)
+  pub below : (j : ℕ) (w : Write) → j < n → slice_get (in_groups p.writes) j ≡ Some w → IsPrepared p w (g w.key)
+  pub from : (j : ℕ) (w : Write) → n ≤ j → slice_get (in_groups p.writes) j ≡ Some w → IsBased p w (g w.key)
 
 -- it isn't committed, and no call of its client that is still to come commits it
 abbrev pub IsGivenUp : Work → Database → Type 0
@@ -108,7 +109,7 @@ DecidingAlone p g phase.Ended = ⊥
 
 -- The database where a COMMIT is at a stage.
 abbrev pub StageAlone : Work → Database → Stage → Type 0
-StageAlone p g (Preparing i) = IsUndecided g p.id × ArePrepared p i g
+StageAlone p g (Preparing i) = IsUndecided g p.id × ArePrepared p (writes_before p i) g
 StageAlone p g (Checking i) = IsUndecided g p.id × EachWrite p (IsPrepared p) g
 StageAlone p g (Deciding d) = DecidingAlone p g d × EachWrite p (IsPrepared p) g
 StageAlone p g (Forward i) = IsDone p g

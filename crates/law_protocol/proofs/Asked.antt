@@ -4,7 +4,7 @@ use Rattle.std.specs.Prelude.{◌==◌, Contains, slice_get}
 use Rattle.std.proofs.lemmas.List.Elements.{Contains-append_left, Contains-append_right, Contains-append_cases}
 use Rattle.law_protocol.specs.Types.{Answer, Event, Key, Place, Reply, Request}
 use Rattle.sdb_types.specs.declared.record.Reply.TheVariants as reply
-use Rattle.sdb_types.proofs.Public.{clash, one_of, same_key_self, tests}
+use Rattle.sdb_types.proofs.Public.{clash, one_of, tests}
 use Rattle.sdb_model.specs.declared.event.Event.TheVariants as event
 use Rattle.sdb_model.specs.declared.event.How.TheVariants.{Seen}
 use Rattle.sdb_model.specs.Events.{Contact, StoreContents, Effect, EffectOf, IsCall, contact_of}
@@ -24,6 +24,7 @@ use Rattle.law_protocol.specs.Explained.{IsRunOf}
 use Rattle.law_protocol.proofs.Allowed.{Allowed}
 use Rattle.law_protocol.proofs.Changes.{Asks, called}
 use Rattle.law_protocol.proofs.Current.{now_is}
+use Rattle.law_protocol.proofs.Each.{has_first}
 use Rattle.law_protocol.proofs.Flight.{asked_stays}
 use Rattle.law_protocol.proofs.Known.{accepted_fits}
 use Rattle.law_protocol.proofs.Landing.{asks_same, form_of}
@@ -103,8 +104,8 @@ abbrev IsApplied : Contact → Type 0
 IsApplied c = (c.how ≡ Seen) × (c.reply ≡ reply.Applied)
 
 -- one that was acknowledged was seen and applied
-acknowledged : (plan : ℕ → Plan) (places : List Place) (past : List Labelled) (e : Event) (before now : List StoreContents) (c : Contact) (t : ℕ) (k : Key) (word : Ack) → Effect places e before now → contact_of e ≡ Some c → MayPrepare plan past e t k word → is_yes word ≡ true → IsApplied c
-acknowledged plan places past e before now c t k word effect asks m acked = (seen_is c.request c.how c.reply call.held call.left call.performed (λ f. apart (sym applied ∙ f)), applied)
+acknowledged : (plan : ℕ → Plan) (places : List Place) (past : List Labelled) (e : Event) (before now : List StoreContents) (c : Contact) (t : ℕ) (ks : List Key) (word : Ack) → Effect places e before now → contact_of e ≡ Some c → MayPrepare plan past e t ks word → is_yes word ≡ true → IsApplied c
+acknowledged plan places past e before now c t ks word effect asks m acked = (seen_is c.request c.how c.reply call.held call.left call.performed (λ f. apart (sym applied ∙ f)), applied)
   where
     applied : c.reply ≡ reply.Applied
     applied = (asks_same (asked c asks) (called e m.client _ m.r m.call)).1 ∙ yes_is word m.r m.word_is acked
@@ -130,19 +131,18 @@ prepared_now plan places w past e before now c r done t knows effect o a fits as
     same : (u : ℕ) → (t == u) ≡ true → u ≡ t
     same u h = grind (arith, tests)
 
-    answered : (k : Key) (word : Ack) (b : Bool) → is_yes word ≡ b → MayOccur plan past e (Prepares t (k ∷ []) word) → IsApplied c ⊎ ((x : Key) × IsUnacknowledged (happens plan w (Prepares t (k ∷ []) word) done) t x)
-    answered k word false n o = inr (k, unacknowledged_now plan w t (k ∷ []) word done k n (same_key_self k))
-    answered k word true y o = elim (occurs_by plan past e (Prepares t (k ∷ []) word) o) [
-      | inl m ↦ inl (acknowledged plan places past e before now c t k word effect asks m y)
-      | inr l ↦ clash (sym y ∙ ap is_yes (knows.delayed l.request (Prepares t (k ∷ []) word) l.was).1.1.1)
+    answered : (ks : List Key) (word : Ack) (b : Bool) → 0 < length ks → is_yes word ≡ b → MayOccur plan past e (Prepares t ks word) → IsApplied c ⊎ ((x : Key) × IsUnacknowledged (happens plan w (Prepares t ks word) done) t x)
+    answered [] word b some y o = absurd (omega (arith, some))
+    answered (k ∷ ks) word false some n o = inr (k, unacknowledged_now plan w t (k ∷ ks) word done k n (has_first k ks))
+    answered (k ∷ ks) word true some y o = elim (occurs_by plan past e (Prepares t (k ∷ ks) word) o) [
+      | inl m ↦ inl (acknowledged plan places past e before now c t (k ∷ ks) word effect asks m y)
+      | inr l ↦ clash (sym y ∙ ap is_yes (knows.delayed l.request (Prepares t (k ∷ ks) word) l.was).1.1.1)
     ]
 
     by : (x : Action) → MayOccur plan past e x → Allowed plan w x done → HasForm plan c.request x → IsApplied c ⊎ ((k : Key) × IsUnacknowledged (happens plan w x done) t k)
-    by (Prepares u [] word) o a f = absurd f
-    by (Prepares u (k ∷ l ∷ ks) word) o a f = absurd f
-    by (Prepares u (k ∷ []) word) o a f =
-        let own = same u (sym (form_prepares plan t c.request (Prepares u (k ∷ []) word) fits (accepted_fits w u knows.inv.begun knows.fits a.0) f) ∙ prepare) in
-        subst (λ v. IsApplied c ⊎ ((x : Key) × IsUnacknowledged (happens plan w (Prepares v (k ∷ []) word) done) t x)) (sym own) (answered k word (is_yes word) refl (subst (λ v. MayOccur plan past e (Prepares v (k ∷ []) word)) own o))
+    by (Prepares u ks word) o a f =
+        let own = same u (sym (form_prepares plan t c.request (Prepares u ks word) fits (accepted_fits w u knows.inv.begun knows.fits a.0) f) ∙ prepare) in
+        subst (λ v. IsApplied c ⊎ ((x : Key) × IsUnacknowledged (happens plan w (Prepares v ks word) done) t x)) (sym own) (answered ks word (is_yes word) f.some refl (subst (λ v. MayOccur plan past e (Prepares v ks word)) own o))
     by Other o a f = no Other f (form_prepares plan t c.request Other fits tt f)
     by (Begins u d) o a f = absurd f
     by (Takes u) o a f = absurd f

@@ -114,15 +114,18 @@ shows_stands places client store (ask.Scan span) how (reply.Rows rows) answer be
 shows_stands places client store (ask.Get k) how (reply.Rows rows) answer before now key found c h = absurd h
 shows_stands places client store (ask.Get k) how reply.Applied answer before now key found c h = absurd h
 shows_stands places client store (ask.Get k) how (reply.NotMet x) answer before now key found c h = absurd h
+shows_stands places client store (ask.Get k) how (reply.NotAll place there) answer before now key found c h = absurd h
 shows_stands places client store (ask.Get k) how reply.Fault answer before now key found c h = absurd h
 shows_stands places client store (ask.Get k) how reply.NoMemory answer before now key found c h = absurd h
 shows_stands places client store (ask.Scan span) how (reply.Found x) answer before now key found c h = absurd h
 shows_stands places client store (ask.Scan span) how reply.Applied answer before now key found c h = absurd h
 shows_stands places client store (ask.Scan span) how (reply.NotMet x) answer before now key found c h = absurd h
+shows_stands places client store (ask.Scan span) how (reply.NotAll place there) answer before now key found c h = absurd h
 shows_stands places client store (ask.Scan span) how reply.Fault answer before now key found c h = absurd h
 shows_stands places client store (ask.Scan span) how reply.NoMemory answer before now key found c h = absurd h
 shows_stands places client store (ask.PutIf rec condition) how r answer before now key found c h = absurd h
 shows_stands places client store (ask.DeleteIf k condition) how r answer before now key found c h = absurd h
+shows_stands places client store (ask.PutAll batch) how r answer before now key found c h = absurd h
 
 -- the effect of an event of a run, from the moment before it
 effect_at : (plan : ℕ → Plan) (places : List Place) (opening : List StoreContents) (labelled : List Labelled) (moments : List (List StoreContents)) (front back : List Event) (e : Event) → IsRunOf plan places opening (newest_first labelled) (newest_first moments) → events_of labelled ≡ front ++ e ∷ back

@@ -6,7 +6,7 @@ use Rattle.std.specs.FinMap.{get, insert, remove, get-insert, get-remove}
 use Rattle.law_protocol.specs.Types.{Condition, How, Key, Place, Record, Reply, Request}
 use Rattle.sdb_types.specs.declared.record.Request.TheVariants as ask
 use Rattle.sdb_types.specs.declared.record.Reply.TheVariants as reply
-use Rattle.sdb_types.specs.Contents.{Contents, record_at, record_of, holds, reply_to, after}
+use Rattle.sdb_types.specs.Contents.{Contents, IsWellFormed, record_at, record_of, holds, reply_to, after}
 use Rattle.sdb_types.proofs.Public.{key_total, same_key_decides}
 use Rattle.sdb_types.specs.Order.{same_key}
 use Rattle.sdb_record.proofs.Public.{same_name-itself, same_name-true}
@@ -99,6 +99,7 @@ moved q Broken r held left p = elim p.1 [
 
 -- what is at a key is what the call's store has there, before and after, or the call leaves it as it was
 pub record AtCall (places : List Place) (q : Request) (r : Reply) (before now : List StoreContents) : Type 0 where
+  pub formed : IsWellFormed q
   pub held : Contents
   pub left : Contents
   pub moved : ((left ≡ after q held) × ((r ≡ reply_to q held) ⊎ (r ≡ reply.Fault))) ⊎ ((left ≡ held) × ((r ≡ reply.NoMemory) ⊎ (r ≡ reply.Fault)))
@@ -137,6 +138,7 @@ stands_anywhere places store q how r before now c k = elim (same_name_tells stor
 
 pub at_call : (places : List Place) (store : Name) (q : Request) (how : How) (r : Reply) (before now : List StoreContents) → IsCall places store q how r before now → AtCall places q r before now
 at_call places store q how r before now c = record {
+  formed = c.formed;
   held = c.held;
   left = c.left;
   moved = moved q how r c.held c.left c.performed;

@@ -2,12 +2,12 @@
 use Rattle.std.proofs.Common.{◌≡◌, ◌≢◌, ℕ, zero, suc, ◌<◌, ◌^◌, Bool, true, false, List, [], ◌∷◌, Option, Some, None, ◌⊎◌, inl, inr, refl, sym, ap, subst, ◌∙◌, arith}
 use Rattle.std.specs.Prelude.{pos, slice_get, codes, Ok, ◌==◌, if◌then◌else◌}
 use Rattle.std.specs.Option.{option_map, option_map_or}
-use Rattle.law_protocol.specs.Types.{Answer, How, Key, Read, Record, Reply, Request, Write}
+use Rattle.law_protocol.specs.Types.{Answer, How, Key, Read, Record, Reply, Request, State, Write}
 use Rattle.sdb_types.specs.declared.record.State.TheVariants as state
 use Rattle.sdb_record.specs.declared.coordinator.Decision.TheVariants.{Committed}
 use Rattle.sdb_record.specs.Coordinator.{coordinator_key_of, coordinator_row_of, decision_in}
 use Rattle.sdb_record.specs.Names.{is_meta, base_name}
-use Rattle.sdb_record.specs.Meta.{id_in, is_in}
+use Rattle.sdb_record.specs.Meta.{id_in, is_committed, is_in}
 use Rattle.sdb_record.specs.Moved.{version_of, is_unchanged}
 use Rattle.sdb_record.specs.Rolls.{IsWrite, IsBaseOf, forward_record, is_tombstone}
 use Rattle.sdb_record.proofs.Public.{forward-accepted, forward-committed, forward-key, forward-prepared-version, forward-tombstone, mark_value, prepared-key, prepared-unresolved, prepared-unsettled, prepared-version, row-decision, version-writer}
@@ -16,9 +16,10 @@ use Rattle.sdb_model.specs.declared.event.Event.TheVariants as event
 use Rattle.sdb_model.specs.Transactions.{rest_of}
 use Rattle.law_protocol.specs.Plan.{Plan, write_at, written, version_read_at, number_of}
 use Rattle.sdb_model.specs.ReadSet.{ReadItem, KeyRead}
-use Rattle.law_protocol.specs.Lawful.{Labelled, id, IsLawful, IsObserved, IsRowObserved, IsPreparedObserved, IsSettled, Itself, Forward, InReply, IsUnchanged, is_denial, protocol_state}
+use Rattle.law_protocol.specs.Lawful.{Labelled, id, IsLawful, IsObserved, IsRowObserved, IsPreparedObserved, IsPreparedThere, IsSettled, Itself, MayRoll, Forward, InReply, IsUnchanged, is_denial, protocol_state}
 use Rattle.law_protocol.specs.Worked.{account, one, two, three, inserts, updates, deletes_it, prepared, forward, read_at, plan_with, first_run, second_run, lost_decision, recovery, vacuumed, decided_early, prepared_twice, rolled_blindly, checked_changed, removed_while_open, update_text, delete_text, row}
 use Rattle.law_protocol.proofs.Canon.{version_state, not_firm_version}
+use Rattle.law_protocol.proofs.Each.{has_first}
 use Rattle.law_protocol.proofs.Reading.{noted_got}
 use Rattle.law_protocol.proofs.Texts.{begin_begins, commit_commits}
 use Rattle.sdb_types.proofs.Public.{clash, same_key_self, same_key_decides}
@@ -97,6 +98,17 @@ agrees_here plan k key v base b e same f h = f ∙ some_is base b (sym e ∙ ap 
 no_denial : (a : Answer) → ◌≡◌ {A = Option Answer} (Some Rattle.sdb_model.specs.declared.answer.Answer.TheVariants.Committed) (Some a) → is_denial a ≡ true → ⊥
 no_denial a e d = clash (sym d ∙ ap (λ x. option_map_or is_denial x false) (sym e))
 
+-- what was prepared may be rolled
+prepared_roll : (plan : ℕ → Plan) (past : List Labelled) (w : Write) (t : ℕ) (s : State) → is_committed s ≡ false → is_data w.key ≡ true → IsPreparedThere plan past t w.key (prepared w t) → MayRoll plan past t (prepared w t).key (prepared w t) s
+prepared_roll plan past w t s loose stored there = record {
+  is_open = loose;
+  outside = ap is_data key ∙ stored;
+  prepared = subst (λ k. IsPreparedThere plan past t k (prepared w t)) (sym key) there;
+}
+  where
+    key : (prepared w t).key ≡ w.key
+    key = prepared-key w (id t) (pos 0)
+
 ---- the first transaction
 
 no_read : {A : Type 0} (u : ℕ) → ◌≡◌ {A = Option ℕ} (Some u) None → A
@@ -145,14 +157,17 @@ first_lawful w = (
       ),
       record {
         client = 1;
-        write = inserts;
+        group = inserts ∷ [];
         r = _;
         within = record { accepted = refl; is_open = refl; owner = refl; goes_on = refl };
-        at = refl;
+        keys = refl;
+        some = omega arith;
+        once_each = refl;
+        each = (refl, tt);
         call = record { store = _; how = _; answer = _; call = refl };
         word_is = refl;
         stage = refl;
-        once = refl;
+        once = λ k h. refl;
       },
       λ e. absurd (cc),
       λ a e d t f. absurd (cc),
@@ -171,7 +186,13 @@ first_lawful w = (
     λ a e d t f. absurd (cc),
   ),
   record {
-    roll = record { client = 1; rolled = prepared inserts one; s = state.Prepared; r = _; is_open = refl; outside = refl; prepared = inr (refl, refl) };
+    client = 1;
+    rolled = (prepared inserts one, state.Prepared) ∷ [];
+    r = _;
+    keys = ap (λ k. k ∷ []) (sym (prepared-key inserts (id one) (pos 0)));
+    some = omega arith;
+    once_each = refl;
+    each = (prepared_roll (plan_with w) (rest_of first_run) inserts one state.Prepared refl refl (inr (refl, refl)), tt);
     moment = pos 0;
     known = inr (inl (refl, refl));
     call = record { store = _; how = _; answer = _; call = refl };
@@ -233,14 +254,17 @@ second_lawful w text is key base = (
   ),
   record {
     client = 2;
-    write = w;
+    group = w ∷ [];
     r = _;
     within = record { accepted = refl; is_open = refl; owner = refl; goes_on = refl };
-    at = here w key;
+    keys = ap (λ k. k ∷ []) (sym key);
+    some = omega arith;
+    once_each = refl;
+    each = (subst (λ k. write_at (plan_with w two) k ≡ Some w) (sym key) (here w key), tt);
     call = record { store = _; how = _; answer = _; call = ap (λ y. Rattle.law_protocol.specs.Worked.call 2 (Rattle.sdb_types.specs.declared.record.Request.TheVariants.PutIf (prepared w two) y) Rattle.sdb_types.specs.declared.record.Reply.TheVariants.Applied None) (sym (condition w base)) };
     word_is = refl;
     stage = refl;
-    once = refl;
+    once = λ k h. refl;
   },
   λ e. absurd (cc),
   λ a e d t f. absurd (cc),
@@ -288,7 +312,13 @@ lost_decision_lawful = (
     λ a e d t f. absurd (cc),
   ),
   record {
-    roll = record { client = 2; rolled = prepared updates two; s = state.Prepared; r = _; is_open = refl; outside = refl; prepared = inr (refl, refl) };
+    client = 2;
+    rolled = (prepared updates two, state.Prepared) ∷ [];
+    r = _;
+    keys = ap (λ k. k ∷ []) (sym (prepared-key updates (id two) (pos 0)));
+    some = omega arith;
+    once_each = refl;
+    each = (prepared_roll (plan_with updates) (rest_of lost_decision) updates two state.Prepared refl refl (inr (refl, refl)), tt);
     moment = pos 0;
     known = inl (record { row = row two; observed = inl refl; key = refl; says = row_two });
     call = record { store = _; how = _; answer = _; call = refl };
@@ -344,7 +374,13 @@ recovery_lawful = (
           λ a e d t f. absurd (cc),
         ),
         record {
-          roll = record { client = 3; rolled = prepared updates two; s = state.Prepared; r = _; is_open = refl; outside = refl; prepared = inl (held _ (inr (inl refl))) };
+          client = 3;
+          rolled = (prepared updates two, state.Prepared) ∷ [];
+          r = _;
+          keys = ap (λ k. k ∷ []) (sym (prepared-key updates (id two) (pos 0)));
+          some = omega arith;
+          once_each = refl;
+          each = (prepared_roll (plan_with updates) (rest_of (rest_of (rest_of (rest_of recovery)))) updates two state.Prepared refl refl (inl (held _ (inr (inl refl)))), tt);
           moment = pos 0;
           known = inl (record { row = row two; observed = inl refl; key = refl; says = row_two });
           call = record { store = _; how = _; answer = _; call = refl };
@@ -450,7 +486,13 @@ vacuumed_lawful = (
           λ a e d t f. absurd (cc),
         ),
         record {
-          roll = record { client = 2; rolled = prepared deletes_it two; s = state.Deleted; r = _; is_open = refl; outside = refl; prepared = inr (refl, refl) };
+          client = 2;
+          rolled = (prepared deletes_it two, state.Deleted) ∷ [];
+          r = _;
+          keys = ap (λ k. k ∷ []) (sym (prepared-key deletes_it (id two) (pos 0)));
+          some = omega arith;
+          once_each = refl;
+          each = (prepared_roll (plan_with deletes_it) (rest_of (rest_of (rest_of (rest_of vacuumed)))) deletes_it two state.Deleted refl refl (inr (refl, refl)), tt);
           moment = pos 0;
           known = inr (inl (refl, refl));
           call = record { store = _; how = _; answer = _; call = refl };
@@ -492,7 +534,7 @@ decided_early_refused w l = clash (sym (l.1.prepared account (λ e. absurd (cc))
 
 pub prepared_twice_refused : IsLawful (plan_with updates) prepared_twice → ⊥
 unfolding same_key
-prepared_twice_refused l = clash l.1.once
+prepared_twice_refused l = clash (l.1.once account (has_first account []))
 
 pub checked_moved_refused : (past : List Labelled) → IsLawful (plan_with updates) (checked_changed past) → ⊥
 checked_moved_refused past l = moved (subst (λ n. IsUnchanged (plan_with updates three) n l.1.q l.1.r) (item l.1.item l.1.at) l.1.unchanged) (called l.1.call.call)

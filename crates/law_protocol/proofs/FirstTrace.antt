@@ -8,7 +8,7 @@ use Rattle.sdb_types.specs.declared.record.Condition.TheVariants as condition
 use Rattle.sdb_types.specs.declared.record.Request.TheVariants as ask
 use Rattle.sdb_types.specs.declared.record.Reply.TheVariants as reply
 use Rattle.sdb_types.specs.Order.{key_cmp, same_key}
-use Rattle.sdb_types.specs.Contents.{Contents, record_at, record_of, holds, reply_to, after}
+use Rattle.sdb_types.specs.Contents.{Contents, IsWellFormed, record_at, record_of, holds, reply_to, after}
 use Rattle.sdb_record.specs.declared.coordinator.Decision.TheVariants.{Committed}
 use Rattle.sdb_record.specs.Coordinator.{coordinator_key_of}
 use Rattle.sdb_record.proofs.Public.{forward-key, prepared-key, prepared-version, row-key}
@@ -26,8 +26,8 @@ nothing_there : (k : Key) → record_at empty k ≡ None
 nothing_there k = ap (option_map (λ columns. record_of (k, columns))) (get-empty key_cmp k)
 
 -- a call on the one store, seen
-seen : (q : Request) (r : Reply) (m : Contents) → reply_to q m ≡ r → IsCall [] (codes "ordered") q Seen r (store_with m) (store_with (after q m))
-seen q r m e = record { held = m; left = after q m; placed = refl; found = refl; performed = inl (ap (λ x. (x, after q m)) e); others = refl }
+seen : (q : Request) (r : Reply) (m : Contents) → IsWellFormed q → reply_to q m ≡ r → IsCall [] (codes "ordered") q Seen r (store_with m) (store_with (after q m))
+seen q r m formed e = record { formed = formed; held = m; left = after q m; placed = refl; found = refl; performed = inl (ap (λ x. (x, after q m)) e); others = refl }
 
 applied : (rec : Record) (c : Condition) (m : Contents) → holds c (record_at m rec.key) ≡ true → reply_to (ask.PutIf rec c) m ≡ reply.Applied
 applied rec c m h = ap (λ b. if b then reply.Applied else reply.NotMet (record_at m rec.key)) h
@@ -74,12 +74,12 @@ traced : IsTraced [] (store_with empty) first_run first_moments
 traced = (
   (
     (
-      ((((tt, refl), refl), seen (ask.Get account) (reply.Found None) empty (ap (λ x. reply.Found x) (nothing_there account))), refl),
-      seen (ask.PutIf (prepared inserts one) condition.Absent) reply.Applied empty (applied (prepared inserts one) condition.Absent empty prepare_holds),
+      ((((tt, refl), refl), seen (ask.Get account) (reply.Found None) empty tt (ap (λ x. reply.Found x) (nothing_there account))), refl),
+      seen (ask.PutIf (prepared inserts one) condition.Absent) reply.Applied empty tt (applied (prepared inserts one) condition.Absent empty prepare_holds),
     ),
-    seen (put_row one) reply.Applied when_prepared (applied (row one) condition.Absent when_prepared (ap (holds condition.Absent) row_free)),
+    seen (put_row one) reply.Applied when_prepared tt (applied (row one) condition.Absent when_prepared (ap (holds condition.Absent) row_free)),
   ),
-  seen (ask.PutIf (forward inserts one) (condition.Version (id one) state.Prepared)) reply.Applied when_decided (applied (forward inserts one) (condition.Version (id one) state.Prepared) when_decided roll_holds),
+  seen (ask.PutIf (forward inserts one) (condition.Version (id one) state.Prepared)) reply.Applied when_decided tt (applied (forward inserts one) (condition.Version (id one) state.Prepared) when_decided roll_holds),
 )
 
 starts_empty : StartsEmpty [] (store_with empty)

@@ -1,5 +1,5 @@
 -- At every moment of a run, in terms of the model: what holds of the requests in flight, and of what recorded transactions asked.
-use Rattle.std.proofs.Common.{◌≡◌, ◌≢◌, ◌⊎◌, ℕ, ℤ, ◌<◌, ◌≤◌, ◌^◌, Bool, true, false, List, [], ◌∷◌, ◌++◌, length, take, drop, Option, Some, None, inl, inr, refl, sym, ap, subst, ◌∙◌, arith}
+use Rattle.std.proofs.Common.{◌≡◌, ◌≢◌, ◌⊎◌, ℕ, ℤ, ◌<◌, ◌≤◌, ◌^◌, Bool, true, false, List, [], ◌∷◌, ◌++◌, length, map, take, drop, Option, Some, None, inl, inr, refl, sym, ap, subst, ◌∙◌, arith}
 use Rattle.std.specs.Prelude.{Contains, IsSomeAnd, Ok, Result, if◌then◌else◌, slice_get}
 use Rattle.std.specs.Option.{option_map, option_map_or}
 use Rattle.std.proofs.lemmas.List.{take-map}
@@ -7,7 +7,7 @@ use Rattle.law_protocol.specs.Types.{Condition, Decided, Decision, Key, Reply, R
 use Rattle.sdb_types.specs.declared.record.Condition.TheVariants as condition
 use Rattle.sdb_types.specs.declared.record.Request.TheVariants as ask
 use Rattle.sdb_types.specs.declared.record.State.TheVariants as state
-use Rattle.sdb_types.specs.Contents.{in_span, record_among}
+use Rattle.sdb_types.specs.Contents.{in_span, record_among, sent}
 use Rattle.sdb_types.specs.Order.{same_key}
 use Rattle.sdb_types.proofs.Public.{clash, none_some, same_key_decides, same_key_self, some_is}
 use Rattle.sdb_record.specs.declared.coordinator.Decision.TheVariants.{Committed, Aborted}
@@ -24,21 +24,22 @@ use Rattle.sdb_model.specs.Events.{StoreContents, moment}
 use Rattle.sdb_model.specs.Explained.{IsAborted, IsTableKey, Observes}
 use Rattle.sdb_model.specs.InFlight.{AllApplied, FlightsExplained, IsAskedAt, IsCertainAt, IsCheckedAt, IsInFlightAt, IsOfTombstone, IsOpenAt, IsRollBack, IsRollForward, IsSoundInFlight, PutsRow, RecordedAreWhole, WasAsked}
 use Rattle.sdb_model.specs.ReadSet.{KeyRead, ReadItem, SpanRead, version_read}
-use Rattle.sdb_model.specs.Requests.{records_put}
+use Rattle.sdb_model.specs.Requests.{puts_in, records_put}
 use Rattle.sdb_model.specs.Tables.{is_data}
 use Rattle.sdb_model.specs.Follows.{has_stopped}
 use Rattle.sdb_model.specs.Transactions.{Executed, Recorded, begun, client_of, commit_of, ending}
-use Rattle.sdb_model.proofs.Public.{only_put}
-use Rattle.law_protocol.specs.Plan.{Plan, deletes, number_of, written}
-use Rattle.law_protocol.specs.History.{Action, Other, Begins, Takes, Prepares, Checks, Decides, Aborts, Rolls, Removes, Ends, Stops, ProtocolState, History, IsLive, base_of}
+use Rattle.sdb_model.proofs.Public.{only_in, only_put}
+use Rattle.law_protocol.specs.Plan.{Plan, number_of, written}
+use Rattle.law_protocol.specs.History.{Action, Other, Begins, Takes, Prepares, Checks, Decides, Aborts, Rolls, Removes, Ends, Stops, ProtocolState, History, IsLive, base_of, has_key}
 use Rattle.law_protocol.specs.Lawful.{IsUnchanged, Labelled, id, protocol_state}
 use Rattle.law_protocol.specs.Records.{record_left_by, record_prepared_by, write_there}
-use Rattle.law_protocol.specs.Flight.{HasForm, IsReady, StaysAllowed}
+use Rattle.law_protocol.specs.Flight.{HasForm, IsReady, StaysAllowed, prepare_at, roll_forward_at}
 use Rattle.law_protocol.specs.Trace.{closing}
 use Rattle.law_protocol.specs.Explained.{events_of, newest_first}
 use Rattle.law_protocol.specs.Runs.{AgreesOnOpenRun, DataTables, HasReadSets, IsFaithfulRun, IsMomentOf, RunInOrder, WasDelayedBy, contents_at, events_in, history_at, past_at}
 use Rattle.law_protocol.proofs.Asked.{IsAcceptedBy, IsCheckMade, accepted_after, accepted_by_stays, all_applied, asked_by, check_made}
 use Rattle.law_protocol.proofs.Canon.{held_open}
+use Rattle.law_protocol.proofs.Each.{each_among, in_mapped, key_among, sent_among, sent_deletes}
 use Rattle.law_protocol.proofs.Current.{deleted_in, noted_at, now_is as clock_is, was_decided}
 use Rattle.law_protocol.proofs.Derived.{decision_is, recorded_row, row_recorded}
 use Rattle.law_protocol.proofs.Small.{accepted_stays}
@@ -55,19 +56,27 @@ use Rattle.law_protocol.proofs.Whole.{Whole}
 ---- what a request puts
 
 read_puts : {A : Type 0} (q : Request) (r : Record) → is_read q ≡ true → Contains (records_put q) r → A
-read_puts q r h among = by q h (only_put q r among)
+read_puts q r h among = elim (only_put q r among) [ inl e ↦ by q h e | inr b ↦ clash (sym h ∙ ap is_read b.1) ]
   where
     by : {A : Type 0} (q : Request) → is_read q ≡ true → put_by q ≡ Some r → A
     by (ask.Get key) h e = none_some r e
     by (ask.Scan span) h e = none_some r e
     by (ask.PutIf x c) h e = clash (sym h)
     by (ask.DeleteIf key c) h e = clash (sym h)
+    by (ask.PutAll batch) h e = clash (sym h)
 
 put_is : (q : Request) (x r : Record) (c : Condition) → q ≡ ask.PutIf x c → Contains (records_put q) r → r ≡ x
-put_is q x r c is among = sym (some_is x r (ap put_by (sym is) ∙ only_put q r among))
+put_is q x r c is among = sym (only_in x r (subst (λ y. Contains (records_put y) r) is among))
 
 delete_puts : {A : Type 0} (q : Request) (r : Record) (key : Key) (c : Condition) → q ≡ ask.DeleteIf key c → Contains (records_put q) r → A
-delete_puts q r key c is among = none_some r (ap put_by (sym is) ∙ only_put q r among)
+delete_puts q r key c is among = nothing (subst (λ y. Contains (records_put y) r) is among)
+  where
+    nothing : {A : Type 0} → Contains [] r → A
+    nothing h = absurd (omega (arith, h.1))
+
+-- a key whose state was found is among those that are rolled
+found_key : (ks : List Key) (found : List (Key × State)) (x : Key × State) → ks ≡ map (λ (y : Key × State). y.0) found → Contains found x → has_key ks x.0 ≡ true
+found_key ks found x keys h = key_among ks x.0 (subst (λ qs. Contains qs x.0) (sym keys) (in_mapped (λ (y : Key × State). y.0) found x h))
 
 -- a row is no record of a table
 row_no_data : {A : Type 0} (t : TxId) (r : Record) (k : Key) → r.key ≡ coordinator_key_of t → r.key ≡ k → is_data k ≡ true → A
@@ -234,11 +243,10 @@ module _ (r : RunInOrder) (d : DataTables) (faithful : IsFaithfulRun r) (are : H
   committed_row : (q : Request) (action : Action) (x : TxId) → x.0 < 2 ^ 128 → PutsRow x Committed q → HasForm r.plan q action → StaysAllowed r.plan w action → IsCertainAt d.catalog (events_in r) n x
   committed_row q Other x fits h f s = read_puts q h.row f h.puts
   committed_row q (Checks u j) x fits h f s = read_puts q h.row f h.puts
-  committed_row q (Prepares u [] word) x fits h f s = absurd f
-  committed_row q (Prepares u (k ∷ l ∷ ks) word) x fits h f s = absurd f
-  committed_row q (Prepares u (k ∷ []) word) x fits h f s =
-      let asked = (s.1.0 k (same_key_self k)).0 in
-      row_no_data x h.row k h.key (ap (λ (y : Record). y.key) (put_is q (record_prepared_by r.plan u k) h.row _ f h.puts) ∙ held_key r.plan u k (i.all.one.asked u k asked)) (data_of u k asked)
+  committed_row q (Prepares u ks word) x fits h f s =
+      let p = sent_among (prepare_at r.plan u) ks h.row (subst (λ y. Contains (records_put y) h.row) f.asks h.puts) in
+      let asked = (s.1.0 p.0 (key_among ks p.0 p.1)).0 in
+      row_no_data x h.row p.0 h.key (ap (λ (y : Record). y.key) p.2 ∙ held_key r.plan u p.0 (i.all.one.asked u p.0 asked)) (data_of u p.0 asked)
   committed_row q (Decides u word) x fits h f s =
       let is = row_of u x Committed (r.plan u).now q h f in
       subst (IsCertainAt d.catalog (events_in r) n) (same_row u x (fits_of u s.0.accepted) fits (sym (row-key (id u) Committed (r.plan u).now) ∙ ap (λ (y : Record). y.key) (sym is) ∙ h.key)) (certain u s.0)
@@ -252,11 +260,12 @@ module _ (r : RunInOrder) (d : DataTables) (faithful : IsFaithfulRun r) (are : H
         where
           no : Aborted ≡ Committed → ⊥
           no z = cc
-  committed_row q (Rolls u [] c) x fits h f s = absurd f
-  committed_row q (Rolls u (k ∷ l ∷ ks) c) x fits h f s = absurd f
-  committed_row q (Rolls u (k ∷ []) Committed) x fits h f s =
-      let there = s.3 k (same_key_self k) in
-      row_no_data x h.row k h.key (ap (λ (y : Record). y.key) (put_is q (record_left_by r.plan u k) h.row _ f.2 h.puts) ∙ firm_key r.plan u k (i.all.one.asked u k there.1)) there.0
+  committed_row q (Rolls u ks Committed) x fits h f s =
+      let p = sent_among (roll_forward_at r.plan u) f.found h.row (subst (λ y. Contains (records_put y) h.row) f.asks h.puts) in
+      let there = s.3 p.0.0 (found_key ks f.found p.0 f.keys p.1) in
+      row_no_data x h.row p.0.0 h.key (ap (λ (y : Record). y.key) p.2 ∙ firm_key r.plan u p.0.0 (i.all.one.asked u p.0.0 there.1)) there.0
+  committed_row q (Rolls u [] Aborted) x fits h f s = absurd f
+  committed_row q (Rolls u (k ∷ l ∷ ks) Aborted) x fits h f s = absurd f
   committed_row q (Rolls u (k ∷ []) Aborted) x fits h f s = by (base_of (written (r.plan u) k)) refl f.2
     where
       there : (is_data k ≡ true) × (w.protocol.asked u k ≡ true)
@@ -279,28 +288,28 @@ module _ (r : RunInOrder) (d : DataTables) (faithful : IsFaithfulRun r) (are : H
   rolled : (q : Request) (action : Action) (x : Record) → Contains (records_put q) x → IsTableKey d.catalog x.key → is_in state.Committed x.columns ≡ true → HasForm r.plan q action → StaysAllowed r.plan w action → IsRoll q x
   rolled q Other x among table firm f s = read_puts q x f among
   rolled q (Checks u j) x among table firm f s = read_puts q x f among
-  rolled q (Prepares u [] word) x among table firm f s = absurd f
-  rolled q (Prepares u (k ∷ l ∷ ks) word) x among table firm f s = absurd f
-  rolled q (Prepares u (k ∷ []) word) x among table firm f s = clash (sym firm ∙ ap (λ (y : Record). is_in state.Committed y.columns) (put_is q (record_prepared_by r.plan u k) x _ f among) ∙ held_open r.plan u k)
+  rolled q (Prepares u ks word) x among table firm f s =
+      let p = sent_among (prepare_at r.plan u) ks x (subst (λ y. Contains (records_put y) x) f.asks among) in
+      clash (sym firm ∙ ap (λ (y : Record). is_in state.Committed y.columns) p.2 ∙ held_open r.plan u p.0)
   rolled q (Decides u word) x among table firm f s =
       row_no_data (id u) x x.key (ap (λ (y : Record). y.key) (put_is q (coordinator_row_of (id u) Committed (r.plan u).now) x condition.Absent f among) ∙ row-key (id u) Committed (r.plan u).now) refl (apart.outside x.key table)
   rolled q (Aborts u m word) x among table firm f s =
       row_no_data (id u) x x.key (ap (λ (y : Record). y.key) (put_is q (coordinator_row_of (id u) Aborted m) x condition.Absent f among) ∙ row-key (id u) Aborted m) refl (apart.outside x.key table)
-  rolled q (Rolls u [] c) x among table firm f s = absurd f
-  rolled q (Rolls u (k ∷ l ∷ ks) c) x among table firm f s = absurd f
-  rolled q (Rolls u (k ∷ []) Committed) x among table firm f s =
-      let same = put_is q (record_left_by r.plan u k) x (condition.Version (id u) f.0) f.2 among in
+  rolled q (Rolls u ks Committed) x among table firm f s =
+      let p = sent_among (roll_forward_at r.plan u) f.found x (subst (λ y. Contains (records_put y) x) f.asks among) in
       inl (record {
         id = id u;
-        prepared = record_prepared_by r.plan u k;
+        prepared = record_prepared_by r.plan u p.0.0;
         when = (r.plan u).now;
-        found = f.0;
-        was = was u k (s.3 k (same_key_self k)).1;
-        forward = same ∙ sym (forward_at r.plan u k (r.plan u).now refl);
-        unresolved = f.1;
-        asked = f.2 ∙ ap (λ y. ask.PutIf y (condition.Version (id u) f.0)) (sym same);
+        found = p.0.1;
+        was = was u p.0.0 (s.3 p.0.0 (found_key ks f.found p.0 f.keys p.1)).1;
+        forward = p.2 ∙ sym (forward_at r.plan u p.0.0 (r.plan u).now refl);
+        unresolved = each_among (λ (y : Key × State). is_committed y.1 ≡ false) f.found p.0 f.unresolved p.1;
+        asked = subst (λ y. Contains (puts_in y) (x, condition.Version (id u) p.0.1)) (sym f.asks) (subst (λ y. Contains (puts_in (sent (map (roll_forward_at r.plan u) f.found))) (y, condition.Version (id u) p.0.1)) (sym p.2) p.3);
         recorded = recorded_now u s.1 s.0;
       })
+  rolled q (Rolls u [] Aborted) x among table firm f s = absurd f
+  rolled q (Rolls u (k ∷ l ∷ ks) Aborted) x among table firm f s = absurd f
   rolled q (Rolls u (k ∷ []) Aborted) x among table firm f s = by (base_of (written (r.plan u) k)) refl f.2
     where
       asked : w.protocol.asked u k ≡ true
@@ -335,14 +344,12 @@ module _ (r : RunInOrder) (d : DataTables) (faithful : IsFaithfulRun r) (are : H
   deleted : (q : Request) (action : Action) (key : Key) (t : TxId) (st : State) → q ≡ ask.DeleteIf key (condition.Version t st) → HasForm r.plan q action → StaysAllowed r.plan w action → IsDelete key t st
   deleted q Other key t st is f s = read_deletes q key (condition.Version t st) f is
   deleted q (Checks u j) key t st is f s = read_deletes q key (condition.Version t st) f is
-  deleted q (Prepares u [] word) key t st is f s = absurd f
-  deleted q (Prepares u (k ∷ l ∷ ks) word) key t st is f s = absurd f
-  deleted q (Prepares u (k ∷ []) word) key t st is f s = put_deletes q _ _ (condition.Version t st) key f is
+  deleted q (Prepares u ks word) key t st is f s = sent_deletes (map (prepare_at r.plan u) ks) key (condition.Version t st) (sym f.asks ∙ is)
   deleted q (Decides u word) key t st is f s = put_deletes q _ _ (condition.Version t st) key f is
   deleted q (Aborts u m word) key t st is f s = put_deletes q _ _ (condition.Version t st) key f is
-  deleted q (Rolls u [] c) key t st is f s = absurd f
-  deleted q (Rolls u (k ∷ l ∷ ks) c) key t st is f s = absurd f
-  deleted q (Rolls u (k ∷ []) Committed) key t st is f s = put_deletes q _ _ (condition.Version t st) key f.2 is
+  deleted q (Rolls u ks Committed) key t st is f s = sent_deletes (map (roll_forward_at r.plan u) f.found) key (condition.Version t st) (sym f.asks ∙ is)
+  deleted q (Rolls u [] Aborted) key t st is f s = absurd f
+  deleted q (Rolls u (k ∷ l ∷ ks) Aborted) key t st is f s = absurd f
   deleted q (Rolls u (k ∷ []) Aborted) key t st is f s = by (base_of (written (r.plan u) k)) f.2
     where
       by : (v : Option ℕ) → q ≡ undo (condition.Version (id u) f.0) k (option_map (λ b. record_left_by r.plan b k) v) → IsDelete key t st

@@ -5,7 +5,7 @@ use Rattle.std.specs.List.{cons_option, filter_map, list_any}
 use Rattle.std.proofs.lemmas.List.{take-map}
 use Rattle.law_protocol.specs.Types.{Event, Key, Place, Request}
 use Rattle.sdb_types.specs.declared.record.Reply.TheVariants as reply
-use Rattle.sdb_types.proofs.Public.{clash, same_key_self}
+use Rattle.sdb_types.proofs.Public.{clash}
 use Rattle.sdb_model.specs.declared.event.Event.TheVariants as event
 use Rattle.sdb_model.specs.declared.event.How.TheVariants.{Seen, Lost, Discarded, Delayed, Broken}
 use Rattle.sdb_model.specs.Events.{StoreContents, Effect}
@@ -17,6 +17,7 @@ use Rattle.law_protocol.specs.Flight.{HasForm, StaysAllowed}
 use Rattle.law_protocol.specs.Trace.{IsTraced, after_end, closing, history}
 use Rattle.law_protocol.specs.Explained.{IsRunOf, RecordedAnswered, newest_first}
 use Rattle.law_protocol.specs.Runs.{DelayedCall, IsMomentOf, IsRecordedAt, RunInOrder, WasDelayedBy, events_in, history_at, history_in, past_at}
+use Rattle.law_protocol.proofs.Each.{has_first}
 use Rattle.law_protocol.proofs.Known.{accepted_fits}
 use Rattle.law_protocol.proofs.Moments.{IsCut, cut, early_run, early_whole, half, turned_append, turned_length}
 use Rattle.law_protocol.proofs.Points.{WriterFits, form_prepares, in_order, is_prepare_of, order_onto}
@@ -159,9 +160,8 @@ recorded_undelayed r n t d m row = let x = delayed_allowed r n d m in form_prepa
     writer_fits (Stops c) s = tt
 
     none : (x : Action) → HasForm r.plan d.request x → StaysAllowed r.plan w x → is_prepare_of t x ≡ false
-    none (Prepares u [] word) f s = absurd f
-    none (Prepares u (k ∷ l ∷ ks) word) f s = absurd f
-    none (Prepares u (k ∷ []) word) f s = other u k (t == u) refl (s.1.0 k (same_key_self k))
+    none (Prepares u [] word) f s = absurd (omega (arith, f.some))
+    none (Prepares u (k ∷ ks) word) f s = other u k (t == u) refl (s.1.0 k (has_first k ks))
     none Other f s = refl
     none (Begins u c) f s = refl
     none (Takes u) f s = refl

@@ -15,17 +15,17 @@ use Rattle.sdb_model.specs.Tables.{is_data}
 use Rattle.law_protocol.specs.History.{Action, Other, Begins, Takes, Prepares, Checks, Decides, Aborts, Rolls, Removes, Ends, Stops, Ack, NoAck, Deciding, History, has_key, happens}
 use Rattle.law_protocol.specs.Lawful.{Labelled, IsEnabled, IsUnchanged, MayOccur, ack_of, is_quiet}
 use Rattle.law_protocol.specs.Records.{ContainsHistory}
-use Rattle.law_protocol.specs.Flight.{HasForm, IsLate, StaysAllowed}
+use Rattle.law_protocol.specs.Flight.{AsksRollForward, HasForm, IsLate, StaysAllowed}
 use Rattle.law_protocol.specs.Trace.{has_effect}
 use Rattle.law_protocol.proofs.Allowed.{Allowed}
 use Rattle.law_protocol.proofs.Changes.{Asks, called}
+use Rattle.law_protocol.proofs.Each.{only_key}
 use Rattle.law_protocol.proofs.Effects.{at_call}
 use Rattle.law_protocol.proofs.Links.{link_same}
-use Rattle.law_protocol.proofs.Moves.{Moves, live, prepare_is, late_prepare_moves, late_decide_moves, late_abort_moves}
+use Rattle.law_protocol.proofs.Moves.{Moves, prepares_asked, late_prepare_moves, late_decide_moves, late_abort_moves}
 use Rattle.law_protocol.proofs.Observed.{read_leaves}
 use Rattle.law_protocol.proofs.Occurring.{IsLanded, occurs_by}
-use Rattle.law_protocol.proofs.OneKey.{one_of}
-use Rattle.law_protocol.proofs.Rolling.{forward_is, back_is, late_forward_moves, late_back_moves, late_remove_moves}
+use Rattle.law_protocol.proofs.Rolling.{rolls_forward, back_is, late_forward_moves, late_back_moves, late_remove_moves}
 use Rattle.law_protocol.proofs.Settled.{Knows, prepared_there}
 
 pub landed_asks : {past : List Labelled} {e : Event} {action : Action} → (l : IsLanded past e action) → Asks e l.request l.reply
@@ -57,6 +57,7 @@ quiet_reads (event.Call client store (ask.Get key) how r0 given) q r a h = ap is
 quiet_reads (event.Call client store (ask.Scan span) how r0 given) q r a h = ap is_read (asks_same a (call_asks client store (ask.Scan span) how r0 given)).0
 quiet_reads (event.Call client store (ask.PutIf rec c) how r0 given) q r a h = clash (sym h)
 quiet_reads (event.Call client store (ask.DeleteIf key c) how r0 given) q r a h = clash (sym h)
+quiet_reads (event.Call client store (ask.PutAll batch) how r0 given) q r a h = clash (sym h)
 quiet_reads (event.Take client text given) q r a h = absurd (asks_nothing refl a)
 quiet_reads (event.Stop client) q r a h = clash (sym h)
 quiet_reads (event.Clock moment) q r a h = absurd (asks_nothing refl a)
@@ -72,16 +73,14 @@ enabled_form : (plan : ℕ → Plan) (w : History) (past : List Labelled) (e : E
 enabled_form plan w past e Other q r knows m a = quiet_reads e q r a m
 enabled_form plan w past e (Begins t c) q r knows m a = absurd (asks_nothing (ap contact_of m.take) a)
 enabled_form plan w past e (Takes t) q r knows m a = absurd (asks_nothing (ap contact_of m.take) a)
-enabled_form plan w past e (Prepares t [] word) q r knows m a = absurd m
-enabled_form plan w past e (Prepares t (k ∷ []) word) q r knows m a = (asks_same a (called e m.client _ m.r m.call)).0 ∙ prepare_is plan w past t k m.write knows (live w past m.client t knows.talks m.within).0 m.at
-enabled_form plan w past e (Prepares t (k ∷ l ∷ ks) word) q r knows m a = absurd m
+enabled_form plan w past e (Prepares t ks word) q r knows m a = record { some = m.some; once_each = m.once_each; asks = (asks_same a (called e m.client _ m.r m.call)).0 ∙ prepares_asked plan w past e t ks word knows m }
 enabled_form plan w past e (Checks t i) q r knows m a = ap is_read (asks_same a (called e m.client m.q m.r m.call)).0 ∙ check_reads (plan t) m.item m.q m.r m.unchanged
 enabled_form plan w past e (Decides t word) q r knows m a = (asks_same a (called e m.client _ m.r m.call)).0
 enabled_form plan w past e (Aborts t moment word) q r knows m a = (asks_same a (called e m.client _ m.r m.call)).0
-enabled_form plan w past e (Rolls t [] d) q r knows m a = absurd m
-enabled_form plan w past e (Rolls t (k ∷ []) Committed) q r knows m a = (m.roll.s, m.roll.is_open, (asks_same a (called e m.roll.client _ m.roll.r m.call)).0 ∙ (forward_is plan w past e t k knows m).1)
-enabled_form plan w past e (Rolls t (k ∷ []) Aborted) q r knows m a = (m.roll.s, m.roll.is_open, (asks_same a (called e m.roll.client _ m.roll.r m.call)).0 ∙ (back_is plan w past e t k knows m).1)
-enabled_form plan w past e (Rolls t (k ∷ l ∷ ks) d) q r knows m a = absurd m
+enabled_form plan w past e (Rolls t ks Committed) q r knows m a = subst (λ x. AsksRollForward plan x t ks) (sym (asks_same a (called e m.client _ m.r m.call)).0) (rolls_forward plan w past e t ks knows m).form
+enabled_form plan w past e (Rolls t [] Aborted) q r knows m a = absurd m
+enabled_form plan w past e (Rolls t (k ∷ []) Aborted) q r knows m a = (m.s, m.roll.is_open, (asks_same a (called e m.client _ m.r m.call)).0 ∙ (back_is plan w past e t k knows m).1)
+enabled_form plan w past e (Rolls t (k ∷ l ∷ ks) Aborted) q r knows m a = absurd m
 enabled_form plan w past e (Removes k t) q r knows m a = (asks_same a (called e m.client _ m.r m.call)).0
 enabled_form plan w past e (Ends t) q r knows m a = absurd m
 enabled_form plan w past e (Stops c) q r knows m a = absurd (asks_nothing (ap contact_of m) a)
@@ -106,6 +105,7 @@ late_other_moves plan places w e before now q r done held effect asks reads = re
     still (ask.Scan span) c h k = read_leaves places (ask.Scan span) r before now (at_call places asks.store (ask.Scan span) asks.how r before now c) (λ m. refl) k
     still (ask.PutIf rec x) c h k = clash (sym h)
     still (ask.DeleteIf key x) c h k = clash (sym h)
+    still (ask.PutAll batch) c h k = clash (sym h)
 
 pub land_moves : (plan : ℕ → Plan) (places : List Place) (w : History) (past : List Labelled) (e : Event) (before now : List StoreContents) (action : Action) (done : Bool)
     → Knows plan w past → ContainsHistory plan places w before → Effect places e before now → has_effect places e before now ≡ done → IsLanded past e action → Moves plan places w action done now
@@ -116,15 +116,13 @@ land_moves plan places w past e before now action done knows held effect is l = 
 
     by : (x : Action) → HasForm plan l.request x × StaysAllowed plan w x → Moves plan places w x done now
     by Other f = late_other_moves plan places w e before now l.request l.reply done held effect asks f.0
-    by (Prepares t [] word) f = absurd f.0
-    by (Prepares t (k ∷ []) word) f = late_prepare_moves plan places w past e before now t k word l.request l.reply done knows held effect is asks f.0 f.1
-    by (Prepares t (k ∷ i ∷ ks) word) f = absurd f.0
+    by (Prepares t ks word) f = late_prepare_moves plan places w past e before now t ks word l.request l.reply done knows held effect is asks f.0 f.1
     by (Decides t word) f = late_decide_moves plan places w past e before now t word l.request l.reply done knows held effect is asks f.0 f.1
     by (Aborts t moment word) f = late_abort_moves plan places w e before now t moment word l.request l.reply done held effect is asks f.0 f.1
-    by (Rolls t [] d) f = absurd f.0
-    by (Rolls t (k ∷ []) Committed) f = late_forward_moves plan places w past e before now t k l.request l.reply done knows held effect is asks f.0 f.1
+    by (Rolls t ks Committed) f = late_forward_moves plan places w past e before now t ks l.request l.reply done knows held effect is asks f.0 f.1
+    by (Rolls t [] Aborted) f = absurd f.0
     by (Rolls t (k ∷ []) Aborted) f = late_back_moves plan places w past e before now t k l.request l.reply done knows held effect is asks f.0 f.1
-    by (Rolls t (k ∷ i ∷ ks) d) f = absurd f.0
+    by (Rolls t (k ∷ i ∷ ks) Aborted) f = absurd f.0
     by (Removes k u) f = late_remove_moves plan places w past e before now u k l.request l.reply done knows held effect is asks f.0 f.1
     by (Begins t c) f = absurd f.0
     by (Takes t) f = absurd f.0
@@ -164,23 +162,19 @@ pub stays_from_call : (plan : ℕ → Plan) (w : History) (past : List Labelled)
 stays_from_call plan w past e Other done q knows a m asks = tt
 stays_from_call plan w past e (Begins t c) done q knows a m asks = absurd (asks_nothing (ap contact_of m.take) asks)
 stays_from_call plan w past e (Takes t) done q knows a m asks = absurd (asks_nothing (ap contact_of m.take) asks)
-stays_from_call plan w past e (Prepares t [] word) done q knows a m asks = absurd m
-stays_from_call plan w past e (Prepares t (k ∷ i ∷ ks) word) done q knows a m asks = absurd m
-stays_from_call plan w past e (Prepares t (k ∷ []) word) done q knows a m asks = (a.0, asked_now plan w t (k ∷ []) word done (unanswered word m.r m.word_is (asks_same (called e m.client _ m.r m.call) asks).1))
+stays_from_call plan w past e (Prepares t ks word) done q knows a m asks = (a.0, asked_now plan w t ks word done (unanswered word m.r m.word_is (asks_same (called e m.client _ m.r m.call) asks).1))
 stays_from_call plan w past e (Checks t i) done q knows a m asks = absurd (unread (plan t) m.item m.q m.r (asks_same (called e m.client m.q m.r m.call) asks).1 m.unchanged)
 stays_from_call plan w past e (Decides t word) done q knows a m asks =
     let none = unanswered word m.r m.word_is (asks_same (called e m.client _ m.r m.call) asks).1 in
     let s = decided_now plan w t word done none in
     (record { accepted = a.0; prepared = a.2; checked = a.3; agrees = a.4; risked = s.0; stage = s.1 }, none)
 stays_from_call plan w past e (Aborts t moment word) done q knows a m asks = (m.fits, m.moment_is, unanswered word m.r m.word_is (asks_same (called e m.client _ m.r m.call) asks).1)
-stays_from_call plan w past e (Rolls t [] d) done q knows a m asks = absurd m
-stays_from_call plan w past e (Rolls t (k ∷ i ∷ ks) d) done q knows a m asks = absurd m
-stays_from_call plan w past e (Rolls t (k ∷ []) Committed) done q knows a m asks =
-    let own = prepared_there plan w past t k m.roll.rolled knows m.roll.outside m.roll.prepared in
-    ((forward_is plan w past e t k knows m).0, own.fits, own.accepted, one_of (λ x. (is_data x ≡ true) × (w.protocol.asked t x ≡ true)) k (m.roll.outside, own.asked))
+stays_from_call plan w past e (Rolls t ks Committed) done q knows a m asks = let f = rolls_forward plan w past e t ks knows m in (f.row, f.fits, f.accepted, f.asked)
+stays_from_call plan w past e (Rolls t [] Aborted) done q knows a m asks = absurd m
 stays_from_call plan w past e (Rolls t (k ∷ []) Aborted) done q knows a m asks =
-    let own = prepared_there plan w past t k m.roll.rolled knows m.roll.outside m.roll.prepared in
-    ((back_is plan w past e t k knows m).0, own.fits, own.accepted, one_of (λ x. (is_data x ≡ true) × (w.protocol.asked t x ≡ true)) k (m.roll.outside, own.asked))
+    let own = prepared_there plan w past t k m.rolled knows m.roll.outside m.roll.prepared in
+    ((back_is plan w past e t k knows m).0, own.fits, own.accepted, only_key (λ x. (is_data x ≡ true) × (w.protocol.asked t x ≡ true)) k (m.roll.outside, own.asked))
+stays_from_call plan w past e (Rolls t (k ∷ i ∷ ks) Aborted) done q knows a m asks = absurd m
 stays_from_call plan w past e (Removes k u) done q knows a m asks = (a.0, a.1, m.outside, a.3)
 stays_from_call plan w past e (Ends t) done q knows a m asks = absurd m
 stays_from_call plan w past e (Stops c) done q knows a m asks = absurd (asks_nothing (ap contact_of m) asks)

@@ -1,5 +1,4 @@
 mod Texts
-mod OneKey
 mod Allowed
 mod Small
 mod Shadow
@@ -17,11 +16,13 @@ mod Changes
 mod Links
 mod Moves
 mod Rolling
+mod RowKeys
 mod Landing
 mod Reading
 mod Whole
 mod Selfless
 mod Derived
+mod Each
 mod Times
 mod Examples
 mod Points

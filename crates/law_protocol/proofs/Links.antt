@@ -1,10 +1,12 @@
 -- The stores hold what the history says: kept by each kind of write.
-use Rattle.std.proofs.Common.{◌≡◌, ◌≢◌, ℕ, ℤ, ◌<◌, ◌^◌, Bool, true, false, List, [], ◌∷◌, Option, Some, inl, inr, refl, sym, ap, subst, ◌∙◌, arith}
+use Rattle.std.proofs.Common.{◌≡◌, ◌≢◌, ℕ, ℤ, ◌<◌, ◌^◌, Bool, true, false, List, [], ◌∷◌, map, Option, Some, inl, inr, refl, sym, ap, subst, ◌∙◌, arith}
 use Rattle.std.specs.Prelude.{◌&&◌, ◌==◌, if◌then◌else◌}
 use Rattle.std.specs.Option.{option_map}
 use Rattle.std.specs.List.{AllByRecursion}
 use Rattle.law_protocol.specs.Types.{Condition, Decision, Key, Place, Record, TxId}
 use Rattle.sdb_record.specs.Coordinator.{coordinator_key_of, coordinator_row_of, id_of_key}
+use Rattle.sdb_types.specs.declared.record.Put.{Put}
+use Rattle.sdb_types.specs.Contents.{put_keys}
 use Rattle.sdb_types.specs.Order.{same_key}
 use Rattle.sdb_types.proofs.Public.{clash, same_key_of, same_key_self, same_key_decides, tests}
 use Rattle.sdb_record.proofs.Public.{key-of-id}
@@ -13,8 +15,9 @@ use Rattle.law_protocol.specs.Plan.{Plan}
 use Rattle.law_protocol.specs.History.{History, Standing, has_key}
 use Rattle.law_protocol.specs.Lawful.{id}
 use Rattle.law_protocol.specs.Records.{record_for, row_for, ContainsHistory}
-use Rattle.law_protocol.specs.Changed.{Change, Changed, keys_of}
-use Rattle.law_protocol.proofs.Changes.{at_change, both}
+use Rattle.law_protocol.specs.Changed.{Change, Changed, change_of, keys_of}
+use Rattle.law_protocol.proofs.Changes.{change_keys}
+use Rattle.law_protocol.proofs.Each.{all_mapped, both, of_key, weaker}
 use Rattle.sdb_model.specs.Tables.{is_data}
 
 ---- keys of rows
@@ -71,7 +74,7 @@ link_changes plan places w v before now cs done held changed left rows same = re
 }
   where
     here : (k : Key) → done ≡ true → has_key (keys_of cs) k ≡ true → (c : Change) × (c.key ≡ k) × ((stored_at places now c.key ≡ c.left) × IsLeft plan v c)
-    here k d h = at_change _ cs k (both _ _ cs (changed.left d) (left d)) h
+    here k d h = of_key (λ (c : Change). c.key) _ cs k (both _ _ cs (changed.left d) (left d)) h
 
     put : (k : Key) → is_data k ≡ true → (c : Change) × (c.key ≡ k) × ((stored_at places now c.key ≡ c.left) × IsLeft plan v c) → stored_at places now k ≡ option_map (record_for plan k) (v.rows k)
     put k there x = subst (λ y. stored_at places now y ≡ option_map (record_for plan y) (v.rows y)) x.1 (x.2.0 ∙ x.2.1.record_is (ap is_data x.1 ∙ there))
@@ -101,6 +104,26 @@ link_write plan places w v before now k c new x done held changed outside put ro
     (λ d. (record { record_is = λ there. put d ∙ ap (option_map (record_for plan k)) (sym (rows k ∙ rw d (rw (same_key_self k) refl))); row_is = λ t fits e. clash (sym outside ∙ ap is_data e ∙ row_is_no_data t) }, tt))
     (λ q h. rows q ∙ rw h refl)
     (λ t fits h. same t)
+
+-- A put is of a record of a table, which the history has there where the put took effect.
+pub record IsPutOf (plan : ℕ → Plan) (v : History) (done : Bool) (p : Put) : Type 0 where
+  pub stored : is_data p.rec.key ≡ true
+  pub left : done ≡ true → Some p.rec ≡ option_map (record_for plan p.rec.key) (v.rows p.rec.key)
+
+-- puts of records of tables
+pub link_puts : (plan : ℕ → Plan) (places : List Place) (w v : History) (before now : List StoreContents) (b : List Put) (done : Bool)
+    → ContainsHistory plan places w before → Changed places (map change_of b) before now done → AllByRecursion (IsPutOf plan v done) b
+    → ((q : Key) → done && has_key (put_keys b) q ≡ false → v.rows q ≡ w.rows q)
+    → ((t : ℕ) → row_for v t ≡ row_for w t)
+    → ContainsHistory plan places v now
+link_puts plan places w v before now b done held changed all rows same =
+    link_changes plan places w v before now (map change_of b) done held changed
+    (λ d. all_mapped change_of (IsLeft plan v) b (weaker (IsPutOf plan v done) (λ p. IsLeft plan v (change_of p)) b (is_left d) all))
+    (λ q h. rows q (ap (λ ks. done && has_key ks q) (sym (change_keys b)) ∙ h))
+    (λ t fits h. same t)
+  where
+    is_left : done ≡ true → (p : Put) → IsPutOf plan v done p → IsLeft plan v (change_of p)
+    is_left d p h = record { record_is = λ there. h.left d; row_is = λ t fits e. clash (sym h.stored ∙ ap is_data e ∙ row_is_no_data t) }
 
 -- a put of a row
 pub link_row : (plan : ℕ → Plan) (places : List Place) (w v : History) (before now : List StoreContents) (t : ℕ) (d : Decision) (m : ℤ) (c : Condition) (done : Bool)

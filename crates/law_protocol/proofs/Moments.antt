@@ -1,10 +1,10 @@
 -- At every moment of a run, in the words of the model: which records there are, and which event put them.
 use Rattle.std.proofs.Common.{◌≡◌, ◌≢◌, ℕ, suc, ◌+◌, ◌-◌, ◌<◌, ◌≤◌, ◌^◌, Bool, true, false, List, [], ◌∷◌, ◌++◌, length, take, drop, append_assoc, add-one, Option, Some, None, ◌⊎◌, inl, inr, refl, sym, ap, subst, ◌∙◌, arith}
-use Rattle.std.specs.Prelude.{IsSomeAnd, fold, ◌==◌, ◌||◌, ◌&&◌, not, is_some}
+use Rattle.std.specs.Prelude.{Contains, IsSomeAnd, fold, ◌==◌, ◌||◌, ◌&&◌, not, is_some}
 use Rattle.std.specs.Option.{option_map}
 use Rattle.std.proofs.lemmas.List.{take-append-drop, length-take-le, length-drop, length-append, length-map, map-append}
 use Rattle.std.proofs.lemmas.List.Sums.{fold-append}
-use Rattle.law_protocol.specs.Types.{Decided, Decision, Event, Key, Place, Record, Reply, Table, TableName, TxId}
+use Rattle.law_protocol.specs.Types.{Decided, Decision, Event, Key, Place, Record, Reply, Request, Table, TableName, TxId}
 use Rattle.sdb_types.specs.declared.record.Condition.TheVariants as condition
 use Rattle.sdb_types.specs.declared.record.State.TheVariants as state
 use Rattle.sdb_record.specs.declared.coordinator.Decision.TheVariants.{Aborted}
@@ -16,24 +16,23 @@ use Rattle.sdb_record.specs.Moved.{condition_of}
 use Rattle.sdb_record.specs.Parts.{before_record}
 use Rattle.sdb_model.specs.Exec.{find_table}
 use Rattle.sdb_model.specs.Events.{StoreContents, stored_at, moment}
+use Rattle.sdb_model.specs.Requests.{records_put}
 use Rattle.sdb_model.specs.Transactions.{is_prepared_record}
 use Rattle.sdb_model.specs.Explained.{IsTableKey, CommittedRecorded, AbortedRemoved, IsAborted, RowsFinal, UnresolvedPrepared, PreparedPersists, IsPrepareOf, IsPreparedAfter}
-use Rattle.sdb_model.proofs.Public.{in_only}
 use Rattle.law_protocol.specs.Plan.{Plan, written}
 use Rattle.law_protocol.specs.History.{Action, Other, Begins, Takes, Prepares, Checks, Decides, Aborts, Rolls, Removes, Ends, Stops, Ack, History, Held, base_of, has_key, happens}
-use Rattle.law_protocol.proofs.OneKey.{the_one}
-use Rattle.law_protocol.specs.Lawful.{Labelled, MayOccur, MayPrepare, id}
+use Rattle.law_protocol.specs.Lawful.{Labelled, MayOccur, id}
 use Rattle.law_protocol.specs.Trace.{closing, history, has_effect, after_end, IsTraced}
 use Rattle.law_protocol.specs.Records.{record_prepared_by, record_for, row_for}
-use Rattle.law_protocol.specs.Flight.{prepare_of}
+use Rattle.law_protocol.specs.Flight.{AsksPrepare, prepare_at}
 use Rattle.law_protocol.specs.Explained.{IsRunOf, IsPreparedRecord, newest_first, events_of}
 use Rattle.law_protocol.proofs.Canon.{same_writer}
 use Rattle.law_protocol.proofs.Known.{held_key, accepted_fits, took_is_accepted, took_stays}
-use Rattle.law_protocol.proofs.Moves.{live, prepare_is}
+use Rattle.law_protocol.proofs.Each.{among_sent, in_keys}
 use Rattle.law_protocol.proofs.Settled.{Knows}
 use Rattle.law_protocol.proofs.Changes.{Asks, called}
 use Rattle.law_protocol.proofs.Occurring.{occurs_by}
-use Rattle.law_protocol.proofs.Landing.{landed_asks}
+use Rattle.law_protocol.proofs.Landing.{form_of, landed_asks}
 use Rattle.law_protocol.proofs.Whole.{Whole}
 use Rattle.law_protocol.proofs.Derived.{decision_is, committed_is_canon, aborted_gone, unresolved_prepared, prepared_stay, took_data}
 use Rattle.law_protocol.proofs.Times.{whole_of, front_run, lasts, stood_before, rows_final}
@@ -51,7 +50,7 @@ both true true e = (refl, refl)
 both true false e = clash (sym e)
 both false b e = clash (sym e)
 
-coordinator_is : (t : TableName) → is_coordinator_table t ≡ true → t ≡ coordinator_table
+pub coordinator_is : (t : TableName) → is_coordinator_table t ≡ true → t ≡ coordinator_table
 coordinator_is t h =
     let b = both (same_name t.ns coordinator_table.ns) (same_name t.table coordinator_table.table) h in
     ap (λ n. record { ns = n; table = t.table }) (same_name-true t.ns coordinator_table.ns b.0) ∙ ap (λ n. record { ns = coordinator_table.ns; table = n }) (same_name-true t.table coordinator_table.table b.1)
@@ -222,23 +221,23 @@ record IsPut (plan : ℕ → Plan) (places : List Place) (t : ℕ) (k : Key) (e 
 -- an event that prepares a key asks for that
 pub prepare_asked : (plan : ℕ → Plan) (w : History) (past : List Labelled) (e : Event) (t : ℕ) (ks : List Key) (k : Key) (word : Ack) → Knows plan w past → MayOccur plan past e (Prepares t ks word) → has_key ks k ≡ true → t < 2 ^ 128 → IsPrepareOf (id t) (record_prepared_by plan t k) e
 prepare_asked plan w past e t ks k word knows o among fits = elim (occurs_by plan past e (Prepares t ks word) o) [
-  | inl m ↦ made (the_one (λ q. MayPrepare plan past e t q word) ks k m among)
-  | inr l ↦ asked l.reply (subst (λ x. Asks e x l.reply) (the_one (λ q. l.request ≡ prepare_of plan t q) ks k (knows.delayed l.request (Prepares t ks word) l.was).0 among) (landed_asks l))
+  | inl m ↦ asked m.r (called e m.client _ m.r m.call)
+  | inr l ↦ asked l.reply (landed_asks l)
 ]
   where
     itself : (n : ℕ) → (n == n) ≡ true
     itself n = grind (arith, tests)
 
-    asked : (r : Reply) → Asks e (prepare_of plan t k) r → IsPrepareOf (id t) (record_prepared_by plan t k) e
-    asked r a = record {
-      contact = record { store = a.store; request = prepare_of plan t k; how = a.how; reply = r };
+    asked : {q : Request} (r : Reply) → Asks e q r → IsPrepareOf (id t) (record_prepared_by plan t k) e
+    asked {q} r a = record {
+      contact = record { store = a.store; request = q; how = a.how; reply = r };
       asks = a.is;
-      puts = in_only (record_prepared_by plan t k) (record_prepared_by plan t k) refl;
+      puts = subst (λ x. Contains (records_put x) (record_prepared_by plan t k)) (sym form.asks) (among_sent (prepare_at plan t) ks k (in_keys ks k among));
       prepare = held_prepares plan t t k (condition_of (option_map id (base_of (written (plan t) k)))) fits fits ∙ itself t;
     }
-
-    made : MayPrepare plan past e t k word → IsPrepareOf (id t) (record_prepared_by plan t k) e
-    made m = asked m.r (subst (λ x. Asks e x m.r) (prepare_is plan w past t k m.write knows (live w past m.client t knows.talks m.within).0 m.at) (called e m.client _ m.r m.call))
+      where
+        form : AsksPrepare plan q t ks
+        form = form_of plan w past e (Prepares t ks word) q r knows o a
 
 put_is : (plan : ℕ → Plan) (places : List Place) (opening : List StoreContents) (early : List Labelled) (p : Labelled) (es : List (List StoreContents)) (s : List StoreContents) (t : ℕ) (ks : List Key) (k : Key) (word : Ack) → IsRunOf plan places opening (p ∷ early) (s ∷ es) → p.action ≡ Prepares t ks word → has_key ks k ≡ true → has_effect places p.event (closing opening es) s ≡ true → IsPut plan places t k p.event (closing opening es) s
 put_is plan places opening early p es s t ks k word r action among done = record {

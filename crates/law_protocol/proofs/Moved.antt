@@ -185,6 +185,7 @@ prepared_moved at id (event.Take i text given) = refl
 prepared_moved at id (event.Call i s q Seen reply.Applied given) = refl
 prepared_moved at id (event.Call i s q Seen (reply.Found f) given) = refl
 prepared_moved at id (event.Call i s q Seen (reply.Rows rs) given) = refl
+prepared_moved at id (event.Call i s q Seen (reply.NotAll place there) given) = refl
 prepared_moved at id (event.Call i s q Seen (reply.NotMet f) given) = refl
 prepared_moved at id (event.Call i s q Seen reply.Fault given) = refl
 prepared_moved at id (event.Call i s q Seen reply.NoMemory given) = refl

@@ -1,35 +1,39 @@
 -- Each part that may be played is allowed by what was done, and leaves the stores as the history says.
-use Rattle.std.proofs.Common.{◌≡◌, ◌≢◌, ℕ, ℤ, ◌<◌, ◌^◌, Bool, true, false, List, [], ◌∷◌, Option, Some, None, ◌⊎◌, inl, inr, refl, sym, ap, subst, ◌∙◌, arith}
+use Rattle.std.proofs.Common.{◌≡◌, ◌≢◌, ℕ, ℤ, ◌<◌, ◌^◌, Bool, true, false, List, [], ◌∷◌, map, Option, Some, None, ◌⊎◌, inl, inr, refl, sym, ap, subst, ◌∙◌, arith}
 use Rattle.std.specs.Prelude.{◌&&◌, ◌==◌, if◌then◌else◌}
+use Rattle.std.specs.List.{AllByRecursion}
 use Rattle.std.specs.Option.{option_map}
-use Rattle.law_protocol.specs.Types.{Decision, Event, Key, Place, Record, Reply, Request, State, TxId, Write}
+use Rattle.law_protocol.specs.Types.{Condition, Decision, Event, Key, Place, Record, Reply, Request, State, TxId, Write}
 use Rattle.sdb_types.specs.declared.record.State.TheVariants as state
 use Rattle.sdb_types.specs.declared.record.Condition.TheVariants as condition
 use Rattle.sdb_types.specs.declared.record.Request.TheVariants as ask
 use Rattle.sdb_types.specs.declared.record.Reply.TheVariants as reply
-use Rattle.sdb_types.specs.Contents.{holds, is_version}
+use Rattle.sdb_types.specs.Replies.{is_refused}
+use Rattle.sdb_types.specs.Contents.{holds, is_version, put_keys, sent}
 use Rattle.sdb_record.specs.declared.coordinator.Decision.TheVariants.{Committed, Aborted}
 use Rattle.sdb_record.specs.Coordinator.{coordinator_key_of, coordinator_row_of}
 use Rattle.sdb_record.specs.Meta.{is_in, is_committed}
+use Rattle.sdb_record.specs.Groups.{keys_of_writes}
 use Rattle.sdb_record.specs.Moved.{version_of, condition_of}
+use Rattle.sdb_record.specs.Puts.{prepare_of, prepares_of}
 use Rattle.sdb_record.specs.Rolls.{prepared_record}
 use Rattle.sdb_record.proofs.Public.{row-key, version-writer}
 use Rattle.sdb_model.specs.Events.{StoreContents, Effect, stored_at}
 use Rattle.law_protocol.specs.Plan.{Plan, write_at, written}
-use Rattle.law_protocol.specs.History.{Action, Prepares, Decides, Aborts, Ack, NoAck, is_yes, is_met, is_out_of_memory_ack, Preparing, ProtocolState, History, Standing, Final, Held, base_of, has_key, has_version, happens, with_row, IsLive, IsWriter, IsPrepared}
+use Rattle.law_protocol.specs.History.{Action, Prepares, Decides, Aborts, Ack, NoAck, is_yes, is_met, is_out_of_memory_ack, Preparing, ProtocolState, History, Standing, Final, Held, at_keys, base_of, has_key, has_version, happens, with_row, IsLive, IsWriter, IsPrepared}
 use Rattle.law_protocol.specs.Lawful.{Labelled, protocol_state, id, ack_of, InCommit, MayPrepare, MayDecide, MayAbort}
 use Rattle.law_protocol.specs.Records.{write_there, record_prepared_by, record_left_by, record_for, row_for, ContainsHistory}
-use Rattle.law_protocol.specs.Flight.{HasForm, StaysAllowed, prepare_of}
+use Rattle.law_protocol.specs.Flight.{HasForm, StaysAllowed, prepare_at}
+use Rattle.law_protocol.specs.Changed.{change_of}
 use Rattle.law_protocol.specs.Trace.{has_effect}
 use Rattle.law_protocol.proofs.Allowed.{Allowed}
-use Rattle.law_protocol.proofs.OneKey.{one_of}
 use Rattle.law_protocol.proofs.Canon.{held_writer, held_open, firm_writer, firm_committed, same_writer, not_open_version, not_firm_version}
-use Rattle.law_protocol.proofs.Changes.{Asks, HasChanged, called, put_call}
+use Rattle.law_protocol.proofs.Changes.{Asks, HasChanged, called, put_call, puts_call}
+use Rattle.law_protocol.proofs.Each.{all_mapped, all_unmapped, at_key_of, each_key, keys_put, map_each, map_mapped, map_own, of_key, weaker}
 use Rattle.law_protocol.proofs.Known.{written_some, write_is, writes_it, held_key, accepted_fits, writer_accepted, took_is_accepted}
 use Rattle.law_protocol.proofs.Settled.{Knows}
-use Rattle.law_protocol.proofs.Links.{link_write, link_row}
-use Rattle.sdb_types.proofs.Public.{clash, same_key_self, tests}
-use Rattle.sdb_types.specs.Order.{same_key}
+use Rattle.law_protocol.proofs.Links.{IsPutOf, link_puts, link_row}
+use Rattle.sdb_types.proofs.Public.{clash, tests}
 use Rattle.sdb_model.specs.Tables.{is_data}
 
 pub record Moves (plan : ℕ → Plan) (places : List Place) (w : History) (r : Action) (done : Bool) (now : List StoreContents) : Type 0 where
@@ -85,7 +89,7 @@ live w past client t same c = subst (λ (x : ProtocolState). (x.accepted t ≡ t
 
 ---- prepares
 
-pub held_is : (plan : ℕ → Plan) (t : ℕ) (k : Key) (w : Write) → write_at (plan t) k ≡ Some w → prepared_record w (id t) (plan t).now ≡ record_prepared_by plan t k
+held_is : (plan : ℕ → Plan) (t : ℕ) (k : Key) (w : Write) → write_at (plan t) k ≡ Some w → prepared_record w (id t) (plan t).now ≡ record_prepared_by plan t k
 unfolding record_prepared_by
 held_is plan t k w e = ap (λ x. prepared_record x (id t) (plan t).now) (sym (write_is (plan t) k w e))
 
@@ -102,6 +106,7 @@ yes_is word r e h = by r (ap is_yes (sym e) ∙ h)
     by reply.NoMemory h = clash (sym h)
     by (reply.Found found) h = clash (sym h)
     by (reply.Rows rows) h = clash (sym h)
+    by (reply.NotAll place there) h = clash (sym h)
     by reply.Fault h = clash (sym h)
 
 wanting_is : (word : Ack) (r : Reply) → word ≡ ack_of r → is_out_of_memory_ack word ≡ true → r ≡ reply.NoMemory
@@ -113,6 +118,7 @@ wanting_is word r e h = by r (ap is_out_of_memory_ack (sym e) ∙ h)
     by reply.NoMemory h = refl
     by (reply.Found found) h = clash (sym h)
     by (reply.Rows rows) h = clash (sym h)
+    by (reply.NotAll place there) h = clash (sym h)
     by reply.Fault h = clash (sym h)
 
 pub writer_fits : (plan : ℕ → Plan) (w : History) (past : List Labelled) (k : Key) (u : ℕ) → Knows plan w past → IsWriter plan w k u → u < 2 ^ 128
@@ -122,52 +128,100 @@ base_version : (plan : ℕ → Plan) (k : Key) (v : Option ℕ) → ((u : ℕ) �
 base_version plan k None f = refl
 base_version plan k (Some u) f = firm_writer plan u k (f u refl)
 
--- what a prepare leaves, whether its client makes it or it lands
-record PutsPrepared (plan : ℕ → Plan) (places : List Place) (w : History) (t : ℕ) (k : Key) (word : Ack) (r : Reply) (done : Bool) (now : List StoreContents) : Type 0 where
-  version : done ≡ true → (q : Key) → has_key (k ∷ []) q ≡ true → has_version (w.rows q) (base_of (written (plan t) q)) ≡ true
-  applied : r ≡ reply.Applied → done ≡ true
-  held : ContainsHistory plan places (happens plan w (Prepares t (k ∷ []) word) done) now
+-- where keys are changed, others stay
+pub at_keys_aside : {X : Type 0} (f : Key → X) (ks : List Key) (x : Key → X) (done : Bool) (q : Key) → done && has_key ks q ≡ false → (if done then at_keys f ks x else f) q ≡ f q
+at_keys_aside f ks x true q h = rw h refl
+at_keys_aside f ks x false q h = refl
 
-puts_prepared : (plan : ℕ → Plan) (places : List Place) (w : History) (past : List Labelled) (e : Event) (before now : List StoreContents) (t : ℕ) (k : Key) (word : Ack) (r : Reply) (done : Bool)
-    → Knows plan w past → ContainsHistory plan places w before → Effect places e before now → has_effect places e before now ≡ done → w.protocol.accepted t ≡ true → is_data k ≡ true → written (plan t) k ≢ None
-    → Asks e (prepare_of plan t k) r → PutsPrepared plan places w t k word r done now
-puts_prepared plan places w past e before now t k word r done knows held effect is accepted outside writes asks =
-    let v = base_of (written (plan t) k) in
-    let c = condition_of (option_map id v) in
-    let fits : (u : ℕ) → base_of (written (plan t) k) ≡ Some u → u < 2 ^ 128 = λ u h. writer_fits plan w past k u knows (knows.inv.base t k u accepted h) in
-    let pc = put_call places e (record_prepared_by plan t k) c r before now done k asks effect is (held_key plan t k writes) (fresh_held (option_map id v) (record_prepared_by plan t k) (held_open plan t k)) in
+-- what a prepare leaves, whether its client makes it or it lands
+record PutsPrepared (plan : ℕ → Plan) (places : List Place) (w : History) (t : ℕ) (ks : List Key) (word : Ack) (r : Reply) (done : Bool) (now : List StoreContents) : Type 0 where
+  version : done ≡ true → (k : Key) → has_key ks k ≡ true → has_version (w.rows k) (base_of (written (plan t) k)) ≡ true
+  applied : r ≡ reply.Applied → done ≡ true
+  held : ContainsHistory plan places (happens plan w (Prepares t ks word) done) now
+
+-- a transaction writes a key, of a table of records
+abbrev pub WritesAt : (ℕ → Plan) → ℕ → Key → Type 0
+WritesAt plan t k = (is_data k ≡ true) × (written (plan t) k ≢ None)
+
+-- the fact of one of the puts
+put_prepared : (plan : ℕ → Plan) (w : History) (t : ℕ) (ks : List Key) (word : Ack) (done : Bool) (k : Key) → has_key ks k ≡ true → WritesAt plan t k → IsPutOf plan (happens plan w (Prepares t ks word) done) done (prepare_at plan t k)
+put_prepared plan w t ks word done k among is = record {
+  stored = ap is_data key ∙ is.0;
+  left = λ d. subst (λ y. Some (record_prepared_by plan t k) ≡ option_map (record_for plan y) ((happens plan w (Prepares t ks word) done).rows y)) (sym key) (rw d (rw among refl));
+}
+  where
+    key : (record_prepared_by plan t k).key ≡ k
+    key = held_key plan t k is.1
+
+keys_prepared : (plan : ℕ → Plan) (t : ℕ) (ks : List Key) → ((k : Key) → has_key ks k ≡ true → WritesAt plan t k) → put_keys (map (prepare_at plan t) ks) ≡ ks
+keys_prepared plan t ks are = keys_put (prepare_at plan t) (λ k. k) ks (each_key _ ks (λ k among. held_key plan t k (are k among).1)) ∙ map_own ks
+
+puts_prepared : (plan : ℕ → Plan) (places : List Place) (w : History) (past : List Labelled) (e : Event) (before now : List StoreContents) (t : ℕ) (ks : List Key) (word : Ack) (r : Reply) (done : Bool)
+    → Knows plan w past → ContainsHistory plan places w before → Effect places e before now → has_effect places e before now ≡ done → w.protocol.accepted t ≡ true → ((k : Key) → has_key ks k ≡ true → WritesAt plan t k)
+    → Asks e (sent (map (prepare_at plan t) ks)) r → PutsPrepared plan places w t ks word r done now
+puts_prepared plan places w past e before now t ks word r done knows held effect is accepted are asks =
     record {
-      version = λ d. one_of (λ q. has_version (w.rows q) (base_of (written (plan t) q)) ≡ true) k (version_stands plan w past k v knows fits (subst (λ x. holds c x ≡ true) (held.records k outside) (pc.changed.held d).0));
+      version = λ d k among. version_is k (are k among) (at_key_of _ ks k (all_unmapped (prepare_at plan t) _ ks (all_unmapped change_of _ (map (prepare_at plan t) ks) (pc.changed.held d))) among);
       applied = pc.applied;
-      held = link_write plan places w (happens plan w (Prepares t (k ∷ []) word) done) before now k c (Some (record_prepared_by plan t k)) (Some (Held t)) done held pc.changed outside (λ d. refl) (λ q. rows_are done q) (λ u. refl);
+      held = link_puts plan places w v before now (map (prepare_at plan t) ks) done held pc.changed (all_mapped (prepare_at plan t) (IsPutOf plan v done) ks (each_key _ ks (λ k among. put_prepared plan w t ks word done k among (are k among))))
+          (λ q h. at_keys_aside w.rows ks (λ x. Some (Held t)) done q (ap (λ qs. done && has_key qs q) (sym (keys_prepared plan t ks are)) ∙ h)) (λ u. refl);
     }
   where
-    rows_are : (b : Bool) (q : Key) → (happens plan w (Prepares t (k ∷ []) word) b).rows q ≡ (if b && same_key q k then Some (Held t) else w.rows q)
-    rows_are true q = refl
-    rows_are false q = refl
+    v : History
+    v = happens plan w (Prepares t ks word) done
 
--- the request of a prepare is the one that the plan has
-pub prepare_is : (plan : ℕ → Plan) (w : History) (past : List Labelled) (t : ℕ) (k : Key) (x : Write) → Knows plan w past → w.protocol.accepted t ≡ true → write_at (plan t) k ≡ Some x
-    → ask.PutIf (prepared_record x (id t) (plan t).now) (condition_of (version_of x.base)) ≡ prepare_of plan t k
-prepare_is plan w past t k x knows accepted at =
+    fresh : (k : Key) → holds (condition_of (option_map id (base_of (written (plan t) k)))) (Some (record_prepared_by plan t k)) ≡ false
+    fresh k = fresh_held (option_map id (base_of (written (plan t) k))) (record_prepared_by plan t k) (held_open plan t k)
+
+    pc : HasChanged places (map change_of (map (prepare_at plan t) ks)) r before now done
+    pc = puts_call places e (map (prepare_at plan t) ks) r before now done asks effect is (all_mapped (prepare_at plan t) _ ks (each_key _ ks (λ k among. fresh k)))
+
+    fits : (k : Key) (u : ℕ) → base_of (written (plan t) k) ≡ Some u → u < 2 ^ 128
+    fits k u h = writer_fits plan w past k u knows (knows.inv.base t k u accepted h)
+
+    version_is : (k : Key) → WritesAt plan t k → holds (condition_of (option_map id (base_of (written (plan t) k)))) (stored_at places before (record_prepared_by plan t k).key) ≡ true → has_version (w.rows k) (base_of (written (plan t) k)) ≡ true
+    version_is k is h = version_stands plan w past k (base_of (written (plan t) k)) knows (fits k) (subst (λ x. holds (condition_of (option_map id (base_of (written (plan t) k)))) x ≡ true) (ap (stored_at places before) (held_key plan t k is.1) ∙ held.records k is.0) h)
+
+-- the put of a prepare is the one that the plan has
+prepare_is : (plan : ℕ → Plan) (w : History) (past : List Labelled) (t : ℕ) (x : Write) → Knows plan w past → w.protocol.accepted t ≡ true → write_at (plan t) x.key ≡ Some x
+    → prepare_of (id t) (plan t).now x ≡ prepare_at plan t x.key
+prepare_is plan w past t x knows accepted at =
     let planned = knows.planned t accepted in
-    let fits : (u : ℕ) → base_of (written (plan t) k) ≡ Some u → u < 2 ^ 128 = λ u h. writer_fits plan w past k u knows (knows.inv.base t k u accepted h) in
-    let same : condition_of (version_of x.base) ≡ condition_of (option_map id (base_of (written (plan t) k))) = ap (λ (x : Option Record). condition_of (version_of x)) (planned.base k x at) ∙ ap condition_of (base_version plan k (base_of (written (plan t) k)) fits) in
-    ap (λ r. ask.PutIf r (condition_of (version_of x.base))) (held_is plan t k x at) ∙ ap (ask.PutIf (record_prepared_by plan t k)) same
+    let fits : (u : ℕ) → base_of (written (plan t) x.key) ≡ Some u → u < 2 ^ 128 = λ u h. writer_fits plan w past x.key u knows (knows.inv.base t x.key u accepted h) in
+    let same : condition_of (version_of x.base) ≡ condition_of (option_map id (base_of (written (plan t) x.key))) = ap (λ (y : Option Record). condition_of (version_of y)) (planned.base x.key x at) ∙ ap condition_of (base_version plan x.key (base_of (written (plan t) x.key)) fits) in
+    ap (λ (r : Record). record { rec = r; condition = condition_of (version_of x.base) }) (held_is plan t x.key x at) ∙ ap (λ (c : Condition). record { rec = record_prepared_by plan t x.key; condition = c }) same
 
-pub prepare_moves : (plan : ℕ → Plan) (places : List Place) (w : History) (past : List Labelled) (e : Event) (before now : List StoreContents) (t : ℕ) (k : Key) (word : Ack) (done : Bool)
-    → Knows plan w past → ContainsHistory plan places w before → Effect places e before now → has_effect places e before now ≡ done → MayPrepare plan past e t k word → Moves plan places w (Prepares t (k ∷ []) word) done now
-prepare_moves plan places w past e before now t k word done knows held effect is m =
+-- and so is the request
+pub prepares_are : (plan : ℕ → Plan) (w : History) (past : List Labelled) (t : ℕ) (group : List Write) → Knows plan w past → w.protocol.accepted t ≡ true → AllByRecursion (λ (x : Write). write_at (plan t) x.key ≡ Some x) group
+    → prepares_of (id t) (plan t).now group ≡ sent (map (prepare_at plan t) (keys_of_writes group))
+prepares_are plan w past t group knows accepted all =
+    ap sent (map_each (prepare_of (id t) (plan t).now) (λ (x : Write). prepare_at plan t x.key) group (weaker _ _ group (λ x at. prepare_is plan w past t x knows accepted at) all)
+    ∙ sym (map_mapped (prepare_at plan t) (λ (x : Write). x.key) group))
+
+-- each key of a prepare is written
+pub are_written : (plan : ℕ → Plan) (w : History) (past : List Labelled) (t : ℕ) (ks : List Key) (group : List Write) → Knows plan w past → w.protocol.accepted t ≡ true → ks ≡ keys_of_writes group → AllByRecursion (λ (x : Write). write_at (plan t) x.key ≡ Some x) group
+    → (k : Key) → has_key ks k ≡ true → WritesAt plan t k
+are_written plan w past t ks group knows accepted keys all k among =
+    let x = of_key (λ (y : Write). y.key) _ group k all (ap (λ qs. has_key qs k) (sym keys) ∙ among) in
+    subst (WritesAt plan t) x.1 (((knows.planned t accepted).write x.0.key x.0 x.2).1, written_some (plan t) x.0.key x.0 x.2)
+
+-- the request of a prepare is the puts that the plan has
+pub prepares_asked : (plan : ℕ → Plan) (w : History) (past : List Labelled) (e : Event) (t : ℕ) (ks : List Key) (word : Ack) → Knows plan w past → (m : MayPrepare plan past e t ks word) → prepares_of (id t) (plan t).now m.group ≡ sent (map (prepare_at plan t) ks)
+prepares_asked plan w past e t ks word knows m =
+    prepares_are plan w past t m.group knows (live w past m.client t knows.talks m.within).0 m.each ∙ ap (λ qs. sent (map (prepare_at plan t) qs)) (sym m.keys)
+
+pub prepare_moves : (plan : ℕ → Plan) (places : List Place) (w : History) (past : List Labelled) (e : Event) (before now : List StoreContents) (t : ℕ) (ks : List Key) (word : Ack) (done : Bool)
+    → Knows plan w past → ContainsHistory plan places w before → Effect places e before now → has_effect places e before now ≡ done → MayPrepare plan past e t ks word → Moves plan places w (Prepares t ks word) done now
+prepare_moves plan places w past e before now t ks word done knows held effect is m =
     let alive = live w past m.client t knows.talks m.within in
-    let outside = ((knows.planned t alive.0).write k m.write m.at).1 in
-    let writes = written_some (plan t) k m.write m.at in
-    let asks = subst (λ x. Asks e x m.r) (prepare_is plan w past t k m.write knows alive.0 m.at) (called e m.client _ m.r m.call) in
-    let p = puts_prepared plan places w past e before now t k word m.r done knows held effect is alive.0 outside writes asks in
+    let are = are_written plan w past t ks m.group knows alive.0 m.keys m.each in
+    let asks = subst (λ x. Asks e x m.r) (prepares_asked plan w past e t ks word knows m) (called e m.client _ m.r m.call) in
+    let p = puts_prepared plan places w past e before now t ks word m.r done knows held effect is alive.0 are asks in
     record {
       allowed = (
         alive.0,
-        inl (alive.1, subst (λ (x : ProtocolState). x.stage t ≡ Preparing) knows.talks m.stage, one_of (λ q. w.protocol.asked t q ≡ false) k (subst (λ (x : ProtocolState). x.asked t k ≡ false) knows.talks m.once)),
-        one_of (λ q. written (plan t) q ≢ None) k writes,
+        inl (alive.1, subst (λ (x : ProtocolState). x.stage t ≡ Preparing) knows.talks m.stage, λ k among. subst (λ (x : ProtocolState). x.asked t k ≡ false) knows.talks (m.once k among)),
+        λ k among. (are k among).1,
         p.version,
         λ y. p.applied (yes_is word m.r m.word_is y),
       );
@@ -175,16 +229,17 @@ prepare_moves plan places w past e before now t k word done knows held effect is
     }
 
 -- a prepare that lands
-pub late_prepare_moves : (plan : ℕ → Plan) (places : List Place) (w : History) (past : List Labelled) (e : Event) (before now : List StoreContents) (t : ℕ) (k : Key) (word : Ack) (q : Request) (r : Reply) (done : Bool)
-    → Knows plan w past → ContainsHistory plan places w before → Effect places e before now → has_effect places e before now ≡ done → Asks e q r → q ≡ prepare_of plan t k → StaysAllowed plan w (Prepares t (k ∷ []) word) → Moves plan places w (Prepares t (k ∷ []) word) done now
-late_prepare_moves plan places w past e before now t k word q r done knows held effect is asks form stays =
-    let writes = knows.inv.asked t k (stays.1.0 k (same_key_self k)).0 in
-    let outside = ((knows.planned t stays.0).write k (write_there (plan t) k) (writes_it (plan t) k writes)).1 in
-    let p = puts_prepared plan places w past e before now t k word r done knows held effect is stays.0 outside writes (subst (λ x. Asks e x r) form asks) in
+pub late_prepare_moves : (plan : ℕ → Plan) (places : List Place) (w : History) (past : List Labelled) (e : Event) (before now : List StoreContents) (t : ℕ) (ks : List Key) (word : Ack) (q : Request) (r : Reply) (done : Bool)
+    → Knows plan w past → ContainsHistory plan places w before → Effect places e before now → has_effect places e before now ≡ done → Asks e q r → HasForm plan q (Prepares t ks word) → StaysAllowed plan w (Prepares t ks word) → Moves plan places w (Prepares t ks word) done now
+late_prepare_moves plan places w past e before now t ks word q r done knows held effect is asks form stays =
+    let p = puts_prepared plan places w past e before now t ks word r done knows held effect is stays.0 are (subst (λ x. Asks e x r) form.asks asks) in
     record {
-      allowed = (stays.0, inr stays.1, one_of (λ q. written (plan t) q ≢ None) k writes, p.version, λ y. clash (sym y ∙ ap is_yes stays.1.1));
+      allowed = (stays.0, inr stays.1, λ k among. (are k among).1, p.version, λ y. clash (sym y ∙ ap is_yes stays.1.1));
       held = p.held;
     }
+  where
+    are : (k : Key) → has_key ks k ≡ true → WritesAt plan t k
+    are k among = let writes = knows.inv.asked t k (stays.1.0 k among).0 in (((knows.planned t stays.0).write k (write_there (plan t) k) (writes_it (plan t) k writes)).1, writes)
 
 ---- rows
 
@@ -211,10 +266,11 @@ met_is places t word r new before now done e written met n = by r refl (ap is_me
 
     by : (x : Reply) → r ≡ x → is_met (ack_of x) ≡ true → holds condition.Absent (stored_at places before (coordinator_key_of (id t))) ≡ false
     by reply.Applied f h = clash (sym (written.applied f) ∙ n)
-    by (reply.NotMet found) f h = failed (written.unmet found f)
+    by (reply.NotMet found) f h = failed (written.unmet (ap is_refused f))
     by reply.NoMemory f h = clash (sym h)
     by (reply.Found found) f h = clash (sym h)
     by (reply.Rows rows) f h = clash (sym h)
+    by (reply.NotAll place there) f h = failed (written.unmet (ap is_refused f))
     by reply.Fault f h = clash (sym h)
 
 row_put : (w : History) (h : ProtocolState) (t : ℕ) (d : Decision) (m : ℤ) (done : Bool) (u : ℕ) → row_for (with_row w h t d m done) u ≡ (if done && u == t then Some (coordinator_row_of (id t) d m) else row_for w u)

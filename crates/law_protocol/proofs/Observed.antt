@@ -1,19 +1,22 @@
 -- What a reply shows was there.
 use Rattle.std.proofs.Common.{◌≡◌, ◌≢◌, Bool, true, false, cond, List, [], ◌∷◌, map, filter, option_map, IfSome, Option, Some, None, ◌⊎◌, inl, inr, refl, sym, ap, subst, ◌∙◌}
-use Rattle.std.specs.Prelude.{if◌then◌else◌}
+use Rattle.std.specs.Prelude.{ℕ, ◌+◌, if◌then◌else◌}
+use Rattle.std.specs.List.{AllByRecursion}
 use Rattle.std.specs.Ordering.{is_eq}
-use Rattle.law_protocol.specs.Types.{Condition, Event, Key, Ordering, Pair, Place, Record, Reply, Request, Span}
+use Rattle.law_protocol.specs.Types.{Condition, Event, Key, Ordering, Pair, Place, Record, Reply, Request, Span, TableName}
+use Rattle.sdb_types.specs.declared.record.Put.{Put}
 use Rattle.std.specs.declared.cmp.Ordering.TheVariants.{Less, Equal, Greater}
 use Rattle.std.specs.FinMap as map_of
 use Rattle.std.specs.FinMap.{entries, get-entries}
 use Rattle.sdb_types.specs.declared.record.Request.TheVariants as ask
 use Rattle.sdb_types.specs.declared.record.Reply.TheVariants as reply
 use Rattle.sdb_types.specs.Order.{key_cmp, table_cmp, same_key}
-use Rattle.sdb_types.specs.Contents.{Contents, record_at, record_of, in_span, is_partition, rows_among, rows_in, holds, put_reply, reply_to, after, record_among}
+use Rattle.sdb_types.specs.Contents.{Contents, record_at, record_of, in_span, is_partition, rows_among, rows_in, holds, put_reply, reply_to, after, record_among, batch_reply, is_met_by, table_of_puts, unmet_from}
 use Rattle.sdb_types.proofs.Public.{and_first, record_at-key, same_key_decides, table_exact}
 use Rattle.sdb_model.specs.declared.event.Event.TheVariants as event
 use Rattle.sdb_model.specs.Events.{StoreContents, Effect, stored_at, table_asked}
 use Rattle.law_protocol.specs.Lawful.{InReply, InEvent}
+use Rattle.law_protocol.proofs.Calls.{all_in_table}
 use Rattle.law_protocol.proofs.Effects.{AtCall, at_call}
 
 ---- rows of a scan
@@ -89,6 +92,31 @@ in_unmet c o x h = by (holds c o) h
     by true h = absurd h
     by false h = unmet o h
 
+-- what a refused batch shows is what is at the key of one of its puts
+named_put : (b : List Put) (n : ℕ) (m : Contents) (t : TableName) (f : ℕ × Option Record) → AllByRecursion (λ (p : Put). p.rec.key.table ≡ t) b → unmet_from n b m ≡ Some f → (p : Put) × (p.rec.key.table ≡ t) × (record_at m p.rec.key ≡ f.1)
+named_put [] n m t f all h = absurd (cc)
+named_put (p ∷ ps) n m t f all h = by (is_met_by m p) h (named_put ps (n + 1) m t f all.1)
+  where
+    same : (a b : ℕ × Option Record) → Some a ≡ Some b → a ≡ b
+    same a b e = cc
+
+    by : (x : Bool) → (if x then unmet_from (n + 1) ps m else Some (n, record_at m p.rec.key)) ≡ Some f → (unmet_from (n + 1) ps m ≡ Some f → (q : Put) × (q.rec.key.table ≡ t) × (record_at m q.rec.key ≡ f.1)) → (q : Put) × (q.rec.key.table ≡ t) × (record_at m q.rec.key ≡ f.1)
+    by true u rest = rest u
+    by false u rest = (p, all.0, ap (λ (g : ℕ × Option Record). g.1) (same (n, record_at m p.rec.key) f u))
+
+batch_stood : (places : List Place) (b : List Put) (r : Reply) (before now : List StoreContents) (a : AtCall places (ask.PutAll b) r before now) (x : Record) → InReply (reply_to (ask.PutAll b) a.held) x → stored_at places before x.key ≡ Some x
+batch_stood places b r before now a x h = by (unmet_from 1 b a.held) refl h
+  where
+    shown : (f : ℕ × Option Record) → InReply (reply.NotAll f.0 f.1) x → f.1 ≡ Some x
+    shown (k, None) h = absurd h
+    shown (k, Some y) h = ap (λ z. Some z) (sym h)
+
+    by : (o : Option (ℕ × Option Record)) → unmet_from 1 b a.held ≡ o → InReply (batch_reply o) x → stored_at places before x.key ≡ Some x
+    by None e h = absurd h
+    by (Some f) e h =
+        let p = named_put b 1 a.held (table_of_puts b) f (all_in_table b a.formed.one) e in
+        found_stood places (ask.PutAll b) r before now a p.0.rec.key x (ap (λ (t : TableName). t.ns) p.1) (p.2 ∙ shown f h)
+
 observed_in : (places : List Place) (q : Request) (r : Reply) (before now : List StoreContents) (a : AtCall places q r before now) (x : Record) → InReply (reply_to q a.held) x → stored_at places before x.key ≡ Some x
 observed_in places (ask.Get key) r before now a x h = found_stood places (ask.Get key) r before now a key x refl (in_found (record_at a.held key) x h)
 observed_in places (ask.Scan span) r before now a x h =
@@ -96,6 +124,7 @@ observed_in places (ask.Scan span) r before now a x h =
     (a.here x.key (span_table span x.key within)).0 ∙ sym (row_there span x.key a.held within) ∙ h
 observed_in places (ask.PutIf rec c) r before now a x h = found_stood places (ask.PutIf rec c) r before now a rec.key x refl (in_unmet c (record_at a.held rec.key) x h)
 observed_in places (ask.DeleteIf key c) r before now a x h = found_stood places (ask.DeleteIf key c) r before now a key x refl (in_unmet c (record_at a.held key) x h)
+observed_in places (ask.PutAll b) r before now a x h = batch_stood places b r before now a x h
 
 shown_call : (places : List Place) (q : Request) (r : Reply) (before now : List StoreContents) → AtCall places q r before now → (x : Record) → InReply r x → stored_at places before x.key ≡ Some x
 shown_call places q r before now a x h = elim a.moved [

@@ -1,40 +1,44 @@
 -- A transaction's point is the last of its prepares that were seen and applied, or else the event that took its COMMIT.
-use Rattle.std.proofs.Common.{◌≡◌, ◌≢◌, ℕ, ℤ, ◌+◌, ◌<◌, ◌^◌, Bool, true, false, List, [], ◌∷◌, ◌++◌, suc, length, Option, Some, None, inl, inr, refl, sym, ap, subst, ◌∙◌, arith}
+use Rattle.std.proofs.Common.{◌≡◌, ◌≢◌, ℕ, ℤ, ◌+◌, ◌<◌, ◌^◌, Bool, true, false, List, [], ◌∷◌, ◌++◌, suc, length, map, Option, Some, None, inl, inr, refl, sym, ap, subst, ◌∙◌, arith}
 use Rattle.std.specs.Prelude.{fold, ◌||◌, ◌&&◌, ◌==◌, if◌then◌else◌, unwrap_or}
 use Rattle.std.specs.Option.{option_map}
-use Rattle.std.specs.List.{enumerate_from}
+use Rattle.std.specs.List.{AllByRecursion, enumerate_from}
+use Rattle.std.proofs.lemmas.List.{length-map}
 use Rattle.std.proofs.lemmas.List.Sums.{fold-append}
 use Rattle.law_protocol.specs.Types.{Answer, Change, Condition, Decision, Event, How, Key, Place, Record, Reply, Request, State, TxId}
 use Rattle.sdb_types.specs.declared.record.State.TheVariants as state
 use Rattle.sdb_types.specs.declared.record.Condition.TheVariants as condition
-use Rattle.sdb_record.specs.Moved.{condition_of, version_of}
+use Rattle.sdb_record.specs.Moved.{condition_of}
 use Rattle.sdb_types.specs.declared.record.Request.TheVariants as ask
 use Rattle.sdb_types.specs.declared.record.Reply.TheVariants as reply
-use Rattle.sdb_types.specs.Contents.{is_version, Contents}
+use Rattle.sdb_types.specs.declared.record.Put.{Put}
+use Rattle.sdb_types.specs.Contents.{is_version, Contents, sent}
 use Rattle.sdb_record.specs.declared.coordinator.Decision.TheVariants.{Committed, Aborted}
 use Rattle.sdb_record.specs.declared.write.Change.TheVariants as change
 use Rattle.sdb_record.specs.Coordinator.{coordinator_row_of}
 use Rattle.sdb_record.specs.Meta.{is_in}
-use Rattle.sdb_record.specs.Rolls.{prepared_record, state_of_change, undo}
+use Rattle.sdb_record.specs.Puts.{prepares_of}
+use Rattle.sdb_record.specs.Rolls.{state_of_change, undo}
 use Rattle.sdb_record.proofs.Public.{prepared-version, version-writer}
 use Rattle.sdb_model.specs.declared.event.Event.TheVariants as event
 use Rattle.sdb_model.specs.declared.event.How.TheVariants.{Seen, Lost, Discarded, Delayed, Broken}
 use Rattle.sdb_model.specs.Events.{StoreContents, Effect, IsPerformed, IsCall}
-use Rattle.sdb_model.specs.Transactions.{prepares, is_prepared_by, last_prepare}
+use Rattle.sdb_model.specs.Requests.{any_of}
+use Rattle.sdb_model.specs.Transactions.{prepares, is_prepared_by, is_prepared_record, last_prepare}
 use Rattle.law_protocol.specs.Plan.{Plan, written}
 use Rattle.sdb_model.specs.Calls.{is_read}
 use Rattle.law_protocol.specs.History.{Action, Other, Begins, Takes, Prepares, Checks, Decides, Aborts, Rolls, Removes, Ends, Stops, is_yes, ProtocolState, History, state_after_event, base_of}
 use Rattle.law_protocol.specs.Lawful.{Labelled, protocol_state, ended, id, ack_of, IsEnabled, MayOccur}
 use Rattle.law_protocol.specs.Records.{write_there, record_prepared_by, record_left_by}
-use Rattle.law_protocol.specs.Flight.{HasForm, StaysAllowed}
+use Rattle.law_protocol.specs.Flight.{HasForm, StaysAllowed, prepare_at, roll_forward_at}
 use Rattle.law_protocol.specs.Trace.{closing, history}
 use Rattle.law_protocol.specs.Explained.{IsRunOf, newest_first, events_of}
 use Rattle.law_protocol.proofs.Canon.{held_writer, firm_committed, not_open_version, same_writer}
 use Rattle.law_protocol.proofs.Known.{accepted_fits}
 use Rattle.law_protocol.proofs.Settled.{Knows}
-use Rattle.law_protocol.proofs.Changes.{Asks as Asked}
+use Rattle.law_protocol.proofs.Changes.{Asks as Asked, called}
+use Rattle.law_protocol.proofs.Each.{all_mapped, any_each, each_key, map_mapped, sent_records, weaker}
 use Rattle.law_protocol.proofs.Landing.{form_of}
-use Rattle.law_protocol.proofs.Moves.{held_is}
 use Rattle.law_protocol.proofs.Occurring.{occurs_by}
 use Rattle.law_protocol.proofs.Whole.{Whole, whole}
 use Rattle.sdb_types.proofs.Public.{clash, tests}
@@ -48,6 +52,7 @@ no_prepare t client store q Seen (reply.NotMet found) a h = refl
 no_prepare t client store q Seen reply.NoMemory a h = refl
 no_prepare t client store q Seen (reply.Found found) a h = refl
 no_prepare t client store q Seen (reply.Rows rows) a h = refl
+no_prepare t client store q Seen (reply.NotAll place there) a h = refl
 no_prepare t client store q Seen reply.Fault a h = refl
 no_prepare t client store q Lost r a h = refl
 no_prepare t client store q Discarded r a h = refl
@@ -110,6 +115,7 @@ unseen t client store q Seen (reply.NotMet found) a h = refl
 unseen t client store q Seen reply.NoMemory a h = refl
 unseen t client store q Seen (reply.Found found) a h = refl
 unseen t client store q Seen (reply.Rows rows) a h = refl
+unseen t client store q Seen (reply.NotAll place there) a h = refl
 unseen t client store q Seen reply.Fault a h = refl
 unseen t client store q Lost r a h = refl
 unseen t client store q Discarded r a h = refl
@@ -122,6 +128,7 @@ applied_is (reply.NotMet found) h = clash (sym h)
 applied_is reply.NoMemory h = clash (sym h)
 applied_is (reply.Found found) h = clash (sym h)
 applied_is (reply.Rows rows) h = clash (sym h)
+applied_is (reply.NotAll place there) h = clash (sym h)
 applied_is reply.Fault h = clash (sym h)
 
 told_prepare : (places : List Place) (t : TxId) (client : ℕ) (store : List ℕ) (q : Request) (how : How) (r : Reply) (a : Option Answer) (before now : List StoreContents) (b : Bool) → prepares t q ≡ b → IsCall places store q how r before now → is_prepared_by t (event.Call client store q how r a) ≡ (b && is_yes (ack_of r))
@@ -161,6 +168,7 @@ read_no t (ask.Get key) h = refl
 read_no t (ask.Scan span) h = refl
 read_no t (ask.PutIf rec c) h = clash (sym h)
 read_no t (ask.DeleteIf key c) h = clash (sym h)
+read_no t (ask.PutAll batch) h = clash (sym h)
 
 back_no : (plan : ℕ → Plan) (t : TxId) (k : Key) (u : ℕ) (s : State) (v : Option ℕ) → prepares t (undo (condition.Version (id u) s) k (option_map (λ x. record_left_by plan x k) v)) ≡ false
 back_no plan t k u s None = refl
@@ -170,19 +178,27 @@ abbrev pub WriterFits : Action → Type 0
 WriterFits (Prepares u ks word) = u < 2 ^ 128
 WriterFits _ = Unit {0}
 
+-- Puts of a list prepare something of a transaction, or not, as each of them does.
+puts_prepare : {X : Type 0} (t : TxId) (b : Bool) (f : X → Put) (xs : List X) → 0 < length xs → AllByRecursion (λ x. is_prepared_record t (f x).rec ≡ b) xs → prepares t (sent (map f xs)) ≡ b
+puts_prepare t b f xs some all =
+    ap (any_of (is_prepared_record t)) (sent_records (map f xs) ∙ map_mapped (λ (p : Put). p.rec) f xs)
+    ∙ any_each (is_prepared_record t) b (map (λ x. (f x).rec) xs) (subst (λ n. 0 < n) (sym (length-map xs (λ x. (f x).rec))) some) (all_mapped (λ x. (f x).rec) _ xs all)
+
 -- A request prepares what its action says.
 pub form_prepares : (plan : ℕ → Plan) (t : ℕ) (q : Request) (action : Action) → t < 2 ^ 128 → WriterFits action → HasForm plan q action → prepares (id t) q ≡ is_prepare_of t action
 form_prepares plan t q Other fits writer f = read_no (id t) q f
 form_prepares plan t q (Checks u i) fits writer f = read_no (id t) q f
-form_prepares plan t q (Prepares u [] word) fits writer f = absurd f
-form_prepares plan t q (Prepares u (k ∷ l ∷ ks) word) fits writer f = absurd f
-form_prepares plan t q (Prepares u (k ∷ []) word) fits writer f = ap (prepares (id t)) f ∙ held_prepares plan t u k (condition_of (option_map id (base_of (written (plan u) k)))) fits writer
+form_prepares plan t q (Prepares u ks word) fits writer f =
+    ap (prepares (id t)) f.asks
+    ∙ puts_prepare (id t) (t == u) (prepare_at plan u) ks f.some (each_key _ ks (λ k among. held_prepares plan t u k (condition_of (option_map id (base_of (written (plan u) k)))) fits writer))
 form_prepares plan t q (Decides u word) fits writer f = ap (prepares (id t)) f ∙ row_no (id t) u Committed (plan u).now condition.Absent
 form_prepares plan t q (Aborts u moment word) fits writer f = ap (prepares (id t)) f ∙ row_no (id t) u Aborted moment condition.Absent
-form_prepares plan t q (Rolls u [] d) fits writer f = absurd f
-form_prepares plan t q (Rolls u (k ∷ l ∷ ks) d) fits writer f = absurd f
-form_prepares plan t q (Rolls u (k ∷ []) Committed) fits writer f = ap (prepares (id t)) f.2 ∙ firm_no (id t) (record_left_by plan u k) (condition.Version (id u) f.0) (firm_committed plan u k)
+form_prepares plan t q (Rolls u ks Committed) fits writer f =
+    ap (prepares (id t)) f.asks
+    ∙ puts_prepare (id t) false (roll_forward_at plan u) f.found (subst (λ n. 0 < n) (length-map f.found (λ (x : Key × State). x.0)) (subst (λ qs. 0 < length qs) f.keys f.some)) (weaker _ _ f.found (λ x loose. firm_no (id t) (record_left_by plan u x.0) (condition.Version (id u) x.1) (firm_committed plan u x.0)) f.unresolved)
+form_prepares plan t q (Rolls u [] Aborted) fits writer f = absurd f
 form_prepares plan t q (Rolls u (k ∷ []) Aborted) fits writer f = ap (prepares (id t)) f.2 ∙ back_no plan (id t) k u f.0 (base_of (written (plan u) k))
+form_prepares plan t q (Rolls u (k ∷ l ∷ ks) Aborted) fits writer f = absurd f
 form_prepares plan t q (Removes k u) fits writer f = ap (prepares (id t)) f
 form_prepares plan t q (Begins u c) fits writer f = absurd f
 form_prepares plan t q (Takes u) fits writer f = absurd f
@@ -200,14 +216,12 @@ event_no t (event.Alter table column kind altered) h = refl
 event_no t (event.Land number store q how r) h = refl
 
 enabled_prepares : (plan : ℕ → Plan) (places : List Place) (w : History) (past : List Labelled) (e : Event) (before now : List StoreContents) (r : Action) (t : ℕ) → Knows plan w past → Effect places e before now → MayOccur plan past e r → IsEnabled plan past e r → t < 2 ^ 128 → is_prepared_by (id t) e ≡ tells_prepare t r
-enabled_prepares plan places w past e before now (Prepares u (k ∷ []) word) t knows effect o m fits =
+enabled_prepares plan places w past e before now (Prepares u ks word) t knows effect o m fits =
     let accepted : w.protocol.accepted u ≡ true = subst (λ (x : ProtocolState). x.accepted u ≡ true) knows.talks m.within.accepted in
-    let c = condition_of (version_of m.write.base) in
+    let prepared = form_prepares plan t _ (Prepares u ks word) fits (accepted_fits w u knows.inv.begun knows.fits accepted) (form_of plan w past e (Prepares u ks word) _ m.r knows o (called e m.client _ m.r m.call)) in
     ap (is_prepared_by (id t)) m.call.call
-    ∙ told_prepare places (id t) m.client m.call.store (ask.PutIf (prepared_record m.write (id u) (plan u).now) c) m.call.how m.r m.call.answer before now (t == u) (ap (λ x. prepares (id t) (ask.PutIf x c)) (held_is plan u k m.write m.at) ∙ held_prepares plan t u k c fits (accepted_fits w u knows.inv.begun knows.fits accepted)) (subst (λ x. Effect places x before now) m.call.call effect)
+    ∙ told_prepare places (id t) m.client m.call.store (prepares_of (id u) (plan u).now m.group) m.call.how m.r m.call.answer before now (t == u) prepared (subst (λ x. Effect places x before now) m.call.call effect)
     ∙ ap (λ x. (t == u) && is_yes x) (sym m.word_is)
-enabled_prepares plan places w past e before now (Prepares u [] word) t knows effect o m fits = absurd m
-enabled_prepares plan places w past e before now (Prepares u (k ∷ l ∷ ks) word) t knows effect o m fits = absurd m
 enabled_prepares plan places w past e before now Other t knows effect o m fits = event_no (id t) e (λ q r a. form_prepares plan t q Other fits tt (form_of plan w past e Other q r knows o a))
 enabled_prepares plan places w past e before now (Begins u c) t knows effect o m fits = event_no (id t) e (λ q r a. form_prepares plan t q (Begins u c) fits tt (form_of plan w past e (Begins u c) q r knows o a))
 enabled_prepares plan places w past e before now (Takes u) t knows effect o m fits = event_no (id t) e (λ q r a. form_prepares plan t q (Takes u) fits tt (form_of plan w past e (Takes u) q r knows o a))
@@ -291,9 +305,7 @@ count h (Stops c) t last next a e none point = grind (arith, tests)
 
 enabled_asks : (plan : ℕ → Plan) (past : List Labelled) (e : Event) (r : Action) → IsEnabled plan past e r → Asks (protocol_state past) r
 enabled_asks plan past e (Takes u) m = m.fresh
-enabled_asks plan past e (Prepares u [] word) m = absurd m
-enabled_asks plan past e (Prepares u (k ∷ []) word) m = m.within.accepted
-enabled_asks plan past e (Prepares u (k ∷ l ∷ ks) word) m = absurd m
+enabled_asks plan past e (Prepares u ks word) m = m.within.accepted
 enabled_asks plan past e (Ends u) m = m
 enabled_asks plan past e Other m = tt
 enabled_asks plan past e (Begins u c) m = tt

@@ -106,6 +106,7 @@ quiet_still places (event.Call client store (ask.Get key) how r answer) before n
 quiet_still places (event.Call client store (ask.Scan span) how r answer) before now h f k = read_leaves places (ask.Scan span) r before now (at_call places store (ask.Scan span) how r before now f) (λ m. refl) k
 quiet_still places (event.Call client store (ask.PutIf rec c) how r answer) before now h f k = clash (sym h)
 quiet_still places (event.Call client store (ask.DeleteIf key c) how r answer) before now h f k = clash (sym h)
+quiet_still places (event.Call client store (ask.PutAll batch) how r answer) before now h f k = clash (sym h)
 quiet_still places (event.Stop client) before now h f k = clash (sym h)
 quiet_still places (event.Clock moment) before now h f k = ap (λ x. stored_at places x k) f
 quiet_still places (event.Idle client) before now h f k = ap (λ x. stored_at places x k) f

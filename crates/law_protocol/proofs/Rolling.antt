@@ -1,76 +1,146 @@
 -- Rolls and removals, as the moves before.
-use Rattle.std.proofs.Common.{◌≡◌, ◌≢◌, ℕ, ◌<◌, ◌^◌, Bool, true, false, List, [], ◌∷◌, Option, Some, None, inl, inr, refl, sym, ap, subst, ◌∙◌}
+use Rattle.std.proofs.Common.{◌≡◌, ◌≢◌, ℕ, ◌<◌, ◌^◌, Bool, true, false, List, [], ◌∷◌, length, map, Option, Some, None, inl, inr, refl, sym, ap, subst, ◌∙◌, arith}
 use Rattle.std.specs.Prelude.{◌&&◌, if◌then◌else◌}
+use Rattle.std.specs.List.{AllByRecursion}
 use Rattle.std.specs.Option.{option_map, option_map_or}
 use Rattle.law_protocol.specs.Types.{Change, Decision, Event, Key, Place, Record, Reply, Request, State}
 use Rattle.sdb_types.specs.declared.record.State.TheVariants as state
 use Rattle.sdb_types.specs.declared.record.Condition.TheVariants as condition
 use Rattle.sdb_types.specs.declared.record.Request.TheVariants as ask
-use Rattle.sdb_types.specs.Contents.{holds}
+use Rattle.sdb_types.specs.Contents.{holds, put_keys, sent}
 use Rattle.sdb_record.specs.declared.coordinator.Decision.TheVariants.{Committed, Aborted}
 use Rattle.sdb_record.specs.declared.write.Change.TheVariants as change
 use Rattle.sdb_record.specs.Meta.{id_in, is_committed}
 use Rattle.sdb_record.specs.Parts.{before_record}
 use Rattle.sdb_record.specs.Rolls.{IsWrite, forward_record, is_tombstone, row_of_image, row_of_change, undo}
 use Rattle.sdb_record.proofs.Public.{forward-prepared-row}
-use Rattle.sdb_model.specs.Events.{StoreContents, Effect}
+use Rattle.sdb_model.specs.Events.{StoreContents, Effect, stored_at}
 use Rattle.law_protocol.specs.Plan.{Plan, written, deletes, is_delete}
-use Rattle.law_protocol.specs.History.{Rolls, Removes, ProtocolState, History, Final, Held, base_of, final_of, rolled, happens, IsLive, IsWriter}
-use Rattle.law_protocol.specs.Lawful.{Labelled, id, MayRollForward, MayRollBack, MayRemove}
+use Rattle.law_protocol.specs.History.{Rolls, Removes, ProtocolState, History, Held, base_of, final_of, has_key, rolled, happens, IsLive, IsWriter}
+use Rattle.law_protocol.specs.Lawful.{Labelled, id, MayRoll, MayRollForward, MayRollBack, MayRemove, roll_forward_of}
 use Rattle.law_protocol.specs.Records.{write_there, record_prepared_by, record_left_by, record_for, ContainsHistory}
-use Rattle.law_protocol.specs.Flight.{HasForm, IsRollOf, StaysAllowed, roll_of}
+use Rattle.law_protocol.specs.Changed.{change_of}
+use Rattle.law_protocol.specs.Flight.{AsksRollBack, AsksRollForward, HasForm, StaysAllowed, roll_back_at, roll_forward_at}
 use Rattle.law_protocol.specs.Trace.{has_effect}
 use Rattle.law_protocol.proofs.Canon.{firm_writer, firm_committed, same_writer, not_open_version}
-use Rattle.law_protocol.proofs.Changes.{Asks, HasChanged, called, put_call, delete_call}
+use Rattle.law_protocol.proofs.Changes.{Asks, HasChanged, called, put_call, puts_call, delete_call}
+use Rattle.law_protocol.proofs.Each.{all_mapped, all_unmapped, both, each_key, keys_put, map_each, map_mapped, of_key, only_key, weaker}
 use Rattle.law_protocol.proofs.Known.{IsPlanned, writes_it, held_before, firm_key, writer_accepted}
-use Rattle.law_protocol.proofs.Settled.{Knows, firm_of as settled_of, forward_at, prepared_there, committed_of, aborted_of}
-use Rattle.law_protocol.proofs.Links.{link_write}
-use Rattle.law_protocol.proofs.Moves.{Moves, open_stands, firm_stands, writer_fits}
+use Rattle.law_protocol.proofs.Settled.{IsOwn, Knows, firm_of as settled_of, forward_at, prepared_there, committed_of, aborted_of}
+use Rattle.law_protocol.proofs.Links.{IsPutOf, link_puts, link_write}
+use Rattle.law_protocol.proofs.Moves.{Moves, WritesAt, at_keys_aside, open_stands, firm_stands, writer_fits}
 use Rattle.sdb_types.proofs.Public.{clash, same_key_decides, same_key_self}
 use Rattle.sdb_types.specs.Order.{same_key}
 use Rattle.sdb_model.specs.Tables.{is_data}
-use Rattle.law_protocol.proofs.OneKey.{one_of}
 
-rolled_rows : (plan : ℕ → Plan) (w : History) (t : ℕ) (k : Key) (d : Decision) (b : Bool) (q : Key) → (happens plan w (Rolls t (k ∷ []) d) b).rows q ≡ (if b && same_key q k then rolled (plan t) t k d else w.rows q)
-rolled_rows plan w t k d true q = elim (same_key_decides q k) [
-  | inl e ↦ rw e.0 (ap (λ y. rolled (plan t) t y d) e.1)
-  | inr n ↦ rw n.0 refl
-]
-rolled_rows plan w t k d false q = refl
+-- the put of what is left at one of the keys
+put_forward : (plan : ℕ → Plan) (w : History) (t : ℕ) (ks : List Key) (done : Bool) (x : Key × State) → has_key ks x.0 ≡ true → WritesAt plan t x.0 → IsPutOf plan (happens plan w (Rolls t ks Committed) done) done (roll_forward_at plan t x)
+put_forward plan w t ks done x among is = record {
+  stored = ap is_data key ∙ is.0;
+  left = λ d. subst (λ y. Some (record_left_by plan t x.0) ≡ option_map (record_for plan y) ((happens plan w (Rolls t ks Committed) done).rows y)) (sym key) (rw d (rw among refl));
+}
+  where
+    key : (record_left_by plan t x.0).key ≡ x.0
+    key = firm_key plan t x.0 is.1
+
+-- The condition of a put of what is left is met: what is there is of the transaction, in that unresolved state.
+abbrev IsMetBefore : (ℕ → Plan) → List Place → List StoreContents → ℕ → Key × State → Type 0
+IsMetBefore plan places before t x = (is_committed x.1 ≡ false) × (holds (condition.Version (id t) x.1) (stored_at places before (record_left_by plan t x.0).key) ≡ true)
 
 -- what a roll forward leaves, whether a client makes it or it lands
-forward_puts : (plan : ℕ → Plan) (places : List Place) (w : History) (past : List Labelled) (e : Event) (before now : List StoreContents) (t : ℕ) (k : Key) (s : State) (r : Reply) (done : Bool)
-    → Knows plan w past → ContainsHistory plan places w before → Effect places e before now → has_effect places e before now ≡ done → w.row t ≡ Some Committed → t < 2 ^ 128 → is_data k ≡ true → written (plan t) k ≢ None → is_committed s ≡ false
-    → Asks e (roll_of plan t Committed k s) r → Moves plan places w (Rolls t (k ∷ []) Committed) done now
-forward_puts plan places w past e before now t k s r done knows held effect is row fits outside writes open_state asks =
-    let c = condition.Version (id t) s in
-    let pc = put_call places e (record_left_by plan t k) c r before now done k asks effect is (firm_key plan t k writes) (not_open_version (id t) s (record_left_by plan t k) open_state (firm_committed plan t k)) in
+forward_puts : (plan : ℕ → Plan) (places : List Place) (w : History) (past : List Labelled) (e : Event) (before now : List StoreContents) (t : ℕ) (ks : List Key) (q : Request) (r : Reply) (done : Bool)
+    → Knows plan w past → ContainsHistory plan places w before → Effect places e before now → has_effect places e before now ≡ done → (w.row t ≡ Some Committed) × (t < 2 ^ 128) → ((k : Key) → has_key ks k ≡ true → WritesAt plan t k)
+    → AsksRollForward plan q t ks → Asks e q r → Moves plan places w (Rolls t ks Committed) done now
+forward_puts plan places w past e before now t ks q r done knows held effect is known are form asks =
     record {
-      allowed = λ h. (one_of (λ q. w.rows q ≡ Some (Held t)) k (open_stands plan w past k t s knows fits open_state (subst (λ x. holds c x ≡ true) (held.records k outside) (pc.changed.held h).0)), row);
-      held = link_write plan places w (happens plan w (Rolls t (k ∷ []) Committed) done) before now k c (Some (record_left_by plan t k)) (Some (Final t)) done held pc.changed outside (λ h. refl) (rolled_rows plan w t k Committed done) (λ u. refl);
+      allowed = λ d. (λ k among. stood k (are k among) (of_key (λ (x : Key × State). x.0) (IsMetBefore plan places before t) form.found k (met d) (ap (λ qs. has_key qs k) (sym form.keys) ∙ among)), known.0);
+      held = link_puts plan places w v before now (map (roll_forward_at plan t) form.found) done held pc.changed (all_mapped (roll_forward_at plan t) (IsPutOf plan v done) form.found puts)
+          (λ k h. at_keys_aside w.rows ks (λ x. rolled (plan t) t x Committed) done k (ap (λ qs. done && has_key qs k) (form.keys ∙ sym keys) ∙ h)) (λ u. refl);
     }
+  where
+    v : History
+    v = happens plan w (Rolls t ks Committed) done
 
--- the request of a roll forward is the one that the plan has
-pub forward_is : (plan : ℕ → Plan) (w : History) (past : List Labelled) (e : Event) (t : ℕ) (k : Key) → Knows plan w past → (m : MayRollForward plan past e t k)
-    → (w.row t ≡ Some Committed) × (ask.PutIf (forward_record m.roll.rolled m.moment) (condition.Version (id t) m.roll.s) ≡ roll_of plan t Committed k m.roll.s)
-forward_is plan w past e t k knows m =
-    let own = prepared_there plan w past t k m.roll.rolled knows m.roll.outside m.roll.prepared in
-    let known = committed_of plan w past t m.moment knows own.fits m.known in
-    (known.0, ap (λ x. ask.PutIf x (condition.Version (id t) m.roll.s)) (ap (λ y. forward_record y m.moment) own.same ∙ forward_at plan t k m.moment known.1))
+    at : AllByRecursion (λ (x : Key × State). (has_key ks x.0 ≡ true) × WritesAt plan t x.0) form.found
+    at = all_unmapped (λ (x : Key × State). x.0) (λ k. (has_key ks k ≡ true) × WritesAt plan t k) form.found
+        (subst (AllByRecursion (λ k. (has_key ks k ≡ true) × WritesAt plan t k)) form.keys (each_key _ ks (λ k among. (among, are k among))))
 
-pub forward_moves : (plan : ℕ → Plan) (places : List Place) (w : History) (past : List Labelled) (e : Event) (before now : List StoreContents) (t : ℕ) (k : Key) (done : Bool)
-    → Knows plan w past → ContainsHistory plan places w before → Effect places e before now → has_effect places e before now ≡ done → MayRollForward plan past e t k → Moves plan places w (Rolls t (k ∷ []) Committed) done now
-forward_moves plan places w past e before now t k done knows held effect is m =
-    let own = prepared_there plan w past t k m.roll.rolled knows m.roll.outside m.roll.prepared in
-    let f = forward_is plan w past e t k knows m in
-    forward_puts plan places w past e before now t k m.roll.s m.roll.r done knows held effect is f.0 own.fits m.roll.outside own.writes m.roll.is_open (subst (λ x. Asks e x m.roll.r) f.1 (called e m.roll.client _ m.roll.r m.call))
+    puts : AllByRecursion (λ (x : Key × State). IsPutOf plan (happens plan w (Rolls t ks Committed) done) done (roll_forward_at plan t x)) form.found
+    puts = weaker _ _ form.found (λ x h. put_forward plan w t ks done x h.0 h.1) at
+
+    keys : put_keys (map (roll_forward_at plan t) form.found) ≡ map (λ (x : Key × State). x.0) form.found
+    keys = keys_put (roll_forward_at plan t) (λ (x : Key × State). x.0) form.found (weaker _ _ form.found (λ x h. firm_key plan t x.0 h.1.1) at)
+
+    pc : HasChanged places (map change_of (map (roll_forward_at plan t) form.found)) r before now done
+    pc = puts_call places e (map (roll_forward_at plan t) form.found) r before now done (subst (λ y. Asks e y r) form.asks asks) effect is
+        (all_mapped (roll_forward_at plan t) _ form.found (weaker _ _ form.found (λ x loose. not_open_version (id t) x.1 (record_left_by plan t x.0) loose (firm_committed plan t x.0)) form.unresolved))
+
+    met : done ≡ true → AllByRecursion (IsMetBefore plan places before t) form.found
+    met d = both _ _ form.found form.unresolved (all_unmapped (roll_forward_at plan t) _ form.found (all_unmapped change_of _ (map (roll_forward_at plan t) form.found) (pc.changed.held d)))
+
+    stood : (k : Key) → WritesAt plan t k → (x : Key × State) × (x.0 ≡ k) × IsMetBefore plan places before t x → w.rows k ≡ Some (Held t)
+    stood k is x =
+        open_stands plan w past k t x.0.1 knows known.1 x.2.0
+        (subst (λ y. holds (condition.Version (id t) x.0.1) y ≡ true) (ap (λ y. stored_at places before (record_left_by plan t y).key) x.1 ∙ ap (stored_at places before) (firm_key plan t k is.1) ∙ held.records k is.0) x.2.1)
+
+-- a record that is rolled is what the transaction prepared at its key, which is written
+own_at : (plan : ℕ → Plan) (w : History) (past : List Labelled) (t : ℕ) (x : Record × State) → Knows plan w past → MayRoll plan past t x.0.key x.0 x.1 → IsOwn plan w t x.0.key x.0
+own_at plan w past t x knows m = prepared_there plan w past t x.0.key x.0 knows m.outside m.prepared
+
+-- a transaction that rolls something is of an id that fits, and was accepted
+one_own : (plan : ℕ → Plan) (w : History) (past : List Labelled) (t : ℕ) (xs : List (Record × State)) → Knows plan w past → AllByRecursion (λ (x : Record × State). MayRoll plan past t x.0.key x.0 x.1) xs → 0 < length (map (λ (x : Record × State). x.0.key) xs)
+    → (t < 2 ^ 128) × (w.protocol.accepted t ≡ true)
+one_own plan w past t [] knows all some = absurd (omega (arith, some))
+one_own plan w past t (x ∷ xs) knows all some = let own = own_at plan w past t x knows all.0 in (own.fits, own.accepted)
+
+pub record RollsForward (plan : ℕ → Plan) (w : History) (t : ℕ) (ks : List Key) (q : Request) : Type 0 where
+  pub row : w.row t ≡ Some Committed
+  pub fits : t < 2 ^ 128
+  pub accepted : w.protocol.accepted t ≡ true
+  pub asked : (k : Key) → has_key ks k ≡ true → (is_data k ≡ true) × (w.protocol.asked t k ≡ true)
+  pub form : AsksRollForward plan q t ks
+
+-- where a record that is rolled is, and in which state
+abbrev found_at : Record × State → Key × State
+found_at x = (x.0.key, x.1)
+
+-- the request of a roll forward is the puts that the plan has
+pub rolls_forward : (plan : ℕ → Plan) (w : History) (past : List Labelled) (e : Event) (t : ℕ) (ks : List Key) → Knows plan w past → (m : MayRollForward plan past e t ks) → RollsForward plan w t ks (sent (map (roll_forward_of (id t) m.moment) m.rolled))
+rolls_forward plan w past e t ks knows m = record {
+  row = known.0;
+  fits = own.0;
+  accepted = own.1;
+  asked = λ k among. let x = of_key (λ (y : Record × State). y.0.key) _ m.rolled k m.each (ap (λ qs. has_key qs k) (sym m.keys) ∙ among) in subst (λ y. (is_data y ≡ true) × (w.protocol.asked t y ≡ true)) x.1 (x.2.outside, (own_at plan w past t x.0 knows x.2).asked);
+  form = record {
+    found = map found_at m.rolled;
+    keys = m.keys ∙ sym (map_mapped (λ (x : Key × State). x.0) found_at m.rolled);
+    some = m.some;
+    once_each = m.once_each;
+    unresolved = all_mapped found_at (λ (x : Key × State). is_committed x.1 ≡ false) m.rolled (weaker _ _ m.rolled (λ x h. h.is_open) m.each);
+    asks = ap sent (map_each (roll_forward_of (id t) m.moment) (λ x. roll_forward_at plan t (found_at x)) m.rolled (weaker _ _ m.rolled same m.each) ∙ sym (map_mapped (roll_forward_at plan t) found_at m.rolled));
+  };
+}
+  where
+    own : (t < 2 ^ 128) × (w.protocol.accepted t ≡ true)
+    own = one_own plan w past t m.rolled knows m.each (subst (λ qs. 0 < length qs) m.keys m.some)
+
+    known : (w.row t ≡ Some Committed) × (m.moment ≡ (plan t).now)
+    known = committed_of plan w past t m.moment knows own.0 m.known
+
+    same : (x : Record × State) → MayRoll plan past t x.0.key x.0 x.1 → roll_forward_of (id t) m.moment x ≡ roll_forward_at plan t (x.0.key, x.1)
+    same x h = ap (λ (y : Record). record { rec = y; condition = condition.Version (id t) x.1 }) (ap (λ y. forward_record y m.moment) (own_at plan w past t x knows h).same ∙ forward_at plan t x.0.key m.moment known.1)
+
+pub forward_moves : (plan : ℕ → Plan) (places : List Place) (w : History) (past : List Labelled) (e : Event) (before now : List StoreContents) (t : ℕ) (ks : List Key) (done : Bool)
+    → Knows plan w past → ContainsHistory plan places w before → Effect places e before now → has_effect places e before now ≡ done → MayRollForward plan past e t ks → Moves plan places w (Rolls t ks Committed) done now
+forward_moves plan places w past e before now t ks done knows held effect is m =
+    let f = rolls_forward plan w past e t ks knows m in
+    forward_puts plan places w past e before now t ks _ m.r done knows held effect is (f.row, f.fits) (λ k among. let x = f.asked k among in (x.0, knows.inv.asked t k x.1)) f.form (called e m.client _ m.r m.call)
 
 -- a roll forward that lands
-pub late_forward_moves : (plan : ℕ → Plan) (places : List Place) (w : History) (past : List Labelled) (e : Event) (before now : List StoreContents) (t : ℕ) (k : Key) (q : Request) (r : Reply) (done : Bool)
-    → Knows plan w past → ContainsHistory plan places w before → Effect places e before now → has_effect places e before now ≡ done → Asks e q r → IsRollOf plan q t Committed k → StaysAllowed plan w (Rolls t (k ∷ []) Committed) → Moves plan places w (Rolls t (k ∷ []) Committed) done now
-late_forward_moves plan places w past e before now t k q r done knows held effect is asks form stays =
-    let there = stays.3 k (same_key_self k) in
-    forward_puts plan places w past e before now t k form.0 r done knows held effect is stays.0 stays.1 there.0 (knows.inv.asked t k there.1) form.1 (subst (λ x. Asks e x r) form.2 asks)
+pub late_forward_moves : (plan : ℕ → Plan) (places : List Place) (w : History) (past : List Labelled) (e : Event) (before now : List StoreContents) (t : ℕ) (ks : List Key) (q : Request) (r : Reply) (done : Bool)
+    → Knows plan w past → ContainsHistory plan places w before → Effect places e before now → has_effect places e before now ≡ done → Asks e q r → AsksRollForward plan q t ks → StaysAllowed plan w (Rolls t ks Committed) → Moves plan places w (Rolls t ks Committed) done now
+late_forward_moves plan places w past e before now t ks q r done knows held effect is asks form stays =
+    forward_puts plan places w past e before now t ks q r done knows held effect is (stays.0, stays.1) (λ k among. let x = stays.3 k among in (x.0, knows.inv.asked t k x.1)) form asks
 
 ---- back
 
@@ -84,36 +154,43 @@ firm_for : (plan : ℕ → Plan) (k : Key) (v : Option ℕ) → option_map (λ u
 firm_for plan k None = refl
 firm_for plan k (Some u) = refl
 
+rolled_rows : (plan : ℕ → Plan) (w : History) (t : ℕ) (k : Key) (d : Decision) (b : Bool) (q : Key) → (happens plan w (Rolls t (k ∷ []) d) b).rows q ≡ (if b && same_key q k then rolled (plan t) t k d else w.rows q)
+rolled_rows plan w t k d true q = elim (same_key_decides q k) [
+  | inl e ↦ rw e.0 (ap (λ y. rolled (plan t) t y d) e.1)
+  | inr n ↦ rw n.0 refl
+]
+rolled_rows plan w t k d false q = refl
+
 -- what a roll back leaves, whether a client makes it or it lands
 back_puts : (plan : ℕ → Plan) (places : List Place) (w : History) (past : List Labelled) (e : Event) (before now : List StoreContents) (t : ℕ) (k : Key) (s : State) (r : Reply) (done : Bool)
     → Knows plan w past → ContainsHistory plan places w before → Effect places e before now → has_effect places e before now ≡ done → w.row t ≡ Some Aborted → t < 2 ^ 128 → is_data k ≡ true → w.protocol.accepted t ≡ true → is_committed s ≡ false
-    → Asks e (roll_of plan t Aborted k s) r → Moves plan places w (Rolls t (k ∷ []) Aborted) done now
+    → Asks e (roll_back_at plan t k s) r → Moves plan places w (Rolls t (k ∷ []) Aborted) done now
 back_puts plan places w past e before now t k s r done knows held effect is row fits outside accepted open_state asks =
     let v = base_of (written (plan t) k) in
     let c = condition.Version (id t) s in
     let b = backs plan places e t k s v r before now done open_state (λ u h. (knows.inv.base t k u accepted h).1) asks effect is in
     record {
-      allowed = λ h. (one_of (λ q. w.rows q ≡ Some (Held t)) k (open_stands plan w past k t s knows fits open_state (subst (λ x. holds c x ≡ true) (held.records k outside) (b.changed.held h).0)), row);
+      allowed = λ h. (only_key (λ q. w.rows q ≡ Some (Held t)) k (open_stands plan w past k t s knows fits open_state (subst (λ x. holds c x ≡ true) (held.records k outside) (b.changed.held h).0)), row);
       held = link_write plan places w (happens plan w (Rolls t (k ∷ []) Aborted) done) before now k c (option_map (λ u. record_left_by plan u k) v) (final_of v) done held b.changed outside (λ h. firm_for plan k v) (rolled_rows plan w t k Aborted done) (λ u. refl);
     }
 
 -- the request of a roll back is the one that the plan has
 pub back_is : (plan : ℕ → Plan) (w : History) (past : List Labelled) (e : Event) (t : ℕ) (k : Key) → Knows plan w past → (m : MayRollBack plan past e t k)
-    → (w.row t ≡ Some Aborted) × (undo (condition.Version (id t) m.roll.s) k (before_record m.roll.rolled) ≡ roll_of plan t Aborted k m.roll.s)
+    → (w.row t ≡ Some Aborted) × (undo (condition.Version (id t) m.s) k (before_record m.rolled) ≡ roll_back_at plan t k m.s)
 back_is plan w past e t k knows m =
-    let own = prepared_there plan w past t k m.roll.rolled knows m.roll.outside m.roll.prepared in
-    (aborted_of plan w past t knows own.fits m.known, ap (undo (condition.Version (id t) m.roll.s) k) (ap before_record own.same ∙ held_before plan t k (knows.planned t own.accepted) own.writes))
+    let own = prepared_there plan w past t k m.rolled knows m.roll.outside m.roll.prepared in
+    (aborted_of plan w past t knows own.fits m.known, ap (undo (condition.Version (id t) m.s) k) (ap before_record own.same ∙ held_before plan t k (knows.planned t own.accepted) own.writes))
 
 pub back_moves : (plan : ℕ → Plan) (places : List Place) (w : History) (past : List Labelled) (e : Event) (before now : List StoreContents) (t : ℕ) (k : Key) (done : Bool)
     → Knows plan w past → ContainsHistory plan places w before → Effect places e before now → has_effect places e before now ≡ done → MayRollBack plan past e t k → Moves plan places w (Rolls t (k ∷ []) Aborted) done now
 back_moves plan places w past e before now t k done knows held effect is m =
-    let own = prepared_there plan w past t k m.roll.rolled knows m.roll.outside m.roll.prepared in
+    let own = prepared_there plan w past t k m.rolled knows m.roll.outside m.roll.prepared in
     let f = back_is plan w past e t k knows m in
-    back_puts plan places w past e before now t k m.roll.s m.roll.r done knows held effect is f.0 own.fits m.roll.outside own.accepted m.roll.is_open (subst (λ x. Asks e x m.roll.r) f.1 (called e m.roll.client _ m.roll.r m.call))
+    back_puts plan places w past e before now t k m.s m.r done knows held effect is f.0 own.fits m.roll.outside own.accepted m.roll.is_open (subst (λ x. Asks e x m.r) f.1 (called e m.client _ m.r m.call))
 
 -- a roll back that lands
 pub late_back_moves : (plan : ℕ → Plan) (places : List Place) (w : History) (past : List Labelled) (e : Event) (before now : List StoreContents) (t : ℕ) (k : Key) (q : Request) (r : Reply) (done : Bool)
-    → Knows plan w past → ContainsHistory plan places w before → Effect places e before now → has_effect places e before now ≡ done → Asks e q r → IsRollOf plan q t Aborted k → StaysAllowed plan w (Rolls t (k ∷ []) Aborted) → Moves plan places w (Rolls t (k ∷ []) Aborted) done now
+    → Knows plan w past → ContainsHistory plan places w before → Effect places e before now → has_effect places e before now ≡ done → Asks e q r → AsksRollBack plan q t k → StaysAllowed plan w (Rolls t (k ∷ []) Aborted) → Moves plan places w (Rolls t (k ∷ []) Aborted) done now
 late_back_moves plan places w past e before now t k q r done knows held effect is asks form stays =
     back_puts plan places w past e before now t k form.0 r done knows held effect is stays.0 stays.1 (stays.3 k (same_key_self k)).0 stays.2 form.1 (subst (λ x. Asks e x r) form.2 asks)
 

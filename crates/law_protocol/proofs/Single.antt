@@ -1,7 +1,7 @@
 -- What happens on several stores happens on one that holds the same of the tables that are played.
 use Rattle.std.proofs.Common.{◌≡◌, true, List, [], ◌∷◌, Some, inl, inr, refl, sym, ap, subst, ◌∙◌}
 use Rattle.law_protocol.specs.Types.{Event, How, Place, Reply, Request, Table, TableName}
-use Rattle.sdb_types.specs.Contents.{Contents, record_at, after}
+use Rattle.sdb_types.specs.Contents.{Contents, IsWellFormed, record_at, after}
 use Rattle.sdb_model.specs.declared.event.Event.TheVariants as event
 use Rattle.sdb_model.specs.declared.event.How.TheVariants.{Seen, Lost, Discarded, Delayed, Broken}
 use Rattle.sdb_model.specs.Rows.{Name}
@@ -20,6 +20,7 @@ one_left name m left = rw (same_name-itself name) refl
 
 -- a call on the one store, with what it leaves there
 record One (catalog : List Table) (places : List Place) (q : Request) (how : How) (r : Reply) (m : Contents) (now : List StoreContents) : Type 0 where
+  formed : IsWellFormed q
   left : Contents
   performed : IsPerformed q how r m left
   same : HoldAs catalog places now left
@@ -31,24 +32,24 @@ one catalog places store q how r before now m c about h = by how refl c.performe
     s k e = sym (stands_in_store places store q how r before now c k (c.placed ∙ ap (λ (t : TableName). store_of places before t.ns) (sym e))).0 ∙ h.at k (played_key catalog (table_asked q) k e about)
 
     done : c.left ≡ after q c.held → HoldAs catalog places now (after q m)
-    done e = held_as catalog places store q how r before now m (after q m) c h (λ k same. ap (λ x. record_at x k) e ∙ same_after q c.held m s k same) (left_apart q m)
+    done e = held_as catalog places store q how r before now m (after q m) c h (λ k same. ap (λ x. record_at x k) e ∙ same_after q c.held m c.formed s k same) (λ k n. left_apart q m k c.formed n)
 
     still : c.left ≡ c.held → HoldAs catalog places now m
     still e = held_as catalog places store q how r before now m m c h (λ k same. ap (λ x. record_at x k) e ∙ same) (λ k n. refl)
 
     by : (g : How) → how ≡ g → IsPerformed q g r c.held c.left → One catalog places q g r m now
-    by Seen e (inl p) = record { left = after q m; performed = inl (ap (λ x. (x, after q m)) (sym (same_reply q c.held m s) ∙ ap (λ (x : Reply × Contents). x.0) p)); same = done (sym (ap (λ (x : Reply × Contents). x.1) p)) }
-    by Seen e (inr w) = record { left = m; performed = inr (w.0, refl); same = still w.1 }
-    by Lost e p = record { left = after q m; performed = (p.0, refl); same = done p.1 }
-    by Discarded e p = record { left = m; performed = (p.0, refl); same = still p.1 }
-    by Delayed e p = record { left = m; performed = (p.0, refl); same = still p.1 }
+    by Seen e (inl p) = record { formed = c.formed; left = after q m; performed = inl (ap (λ x. (x, after q m)) (sym (same_reply q c.held m c.formed s) ∙ ap (λ (x : Reply × Contents). x.0) p)); same = done (sym (ap (λ (x : Reply × Contents). x.1) p)) }
+    by Seen e (inr w) = record { formed = c.formed; left = m; performed = inr (w.0, refl); same = still w.1 }
+    by Lost e p = record { formed = c.formed; left = after q m; performed = (p.0, refl); same = done p.1 }
+    by Discarded e p = record { formed = c.formed; left = m; performed = (p.0, refl); same = still p.1 }
+    by Delayed e p = record { formed = c.formed; left = m; performed = (p.0, refl); same = still p.1 }
     by Broken e p = elim p.1 [
-      | inl x ↦ record { left = m; performed = (p.0, inl refl); same = still x }
-      | inr x ↦ record { left = after q m; performed = (p.0, inr refl); same = done x }
+      | inl x ↦ record { formed = c.formed; left = m; performed = (p.0, inl refl); same = still x }
+      | inr x ↦ record { formed = c.formed; left = after q m; performed = (p.0, inr refl); same = done x }
     ]
 
 on_one : (catalog : List Table) (name : Name) (places : List Place) (q : Request) (how : How) (r : Reply) (m : Contents) (now : List StoreContents) (o : One catalog places q how r m now) → IsCall [] name q how r (one_store name m) (one_store name o.left)
-on_one catalog name places q how r m now o = record { held = m; left = o.left; placed = refl; found = one_held name m; performed = o.performed; others = sym (one_left name m o.left) }
+on_one catalog name places q how r m now o = record { formed = o.formed; held = m; left = o.left; placed = refl; found = one_held name m; performed = o.performed; others = sym (one_left name m o.left) }
 
 -- the one store's trace
 pub record Single (catalog : List Table) (name : Name) (places : List Place) (events : List Event) (m0 : Contents) (closing : List StoreContents) : Type 0 where

@@ -4,7 +4,7 @@ use Rattle.std.specs.Prelude.{IsSome, is_some}
 use Rattle.std.specs.FinMap.{empty}
 use Rattle.std.specs.Option.{option_map_or}
 use Rattle.law_protocol.specs.Types.{Event, How, Key, Place, Reply, Request, Table, TableName}
-use Rattle.sdb_types.specs.Contents.{Contents, record_at, after}
+use Rattle.sdb_types.specs.Contents.{Contents, IsWellFormed, record_at, after}
 use Rattle.sdb_record.proofs.Public.{same_name-itself, same_name-true}
 use Rattle.sdb_model.specs.declared.event.Event.TheVariants as event
 use Rattle.sdb_model.specs.declared.event.How.TheVariants.{Seen, Lost, Discarded, Delayed, Broken}
@@ -25,6 +25,7 @@ contents_of (s ∷ ss) = s.contents
 
 -- a call on the one store: what it leaves there
 record OneCall (name : Name) (q : Request) (how : How) (r : Reply) (m : Contents) (now : List StoreContents) : Type 0 where
+  formed : IsWellFormed q
   left : Contents
   performed : IsPerformed q how r m left
   same : now ≡ one_store name left
@@ -33,6 +34,7 @@ one_call : (name store : Name) (q : Request) (how : How) (r : Reply) (m : Conten
 one_call name store q how r m now c =
     let there : c.held ≡ m = sym (some_same m c.held (sym (one_held name m) ∙ sym (ap (contents_under (one_store name m)) c.placed) ∙ c.found)) in
     record {
+      formed = c.formed;
       left = c.left;
       performed = subst (λ (held : Contents). IsPerformed q how r held c.left) there c.performed;
       same = c.others ∙ ap (λ (n : Name). with_contents (one_store name m) n c.left) c.placed ∙ one_left name m c.left;
@@ -48,12 +50,12 @@ record Performed (q : Request) (how : How) (r : Reply) (h m left : Contents) : T
   there : (k : Key) → k.table.ns ≢ (table_asked q).ns → record_at left k ≡ record_at m k
 
 -- with its effect
-effected : (q : Request) (how : How) (r : Reply) (h m left : Contents) → SameOf h m (table_asked q) → left ≡ after q m → IsPerformed q how r h (after q h) → Performed q how r h m left
-effected q how r h m left s e p = record {
+effected : (q : Request) (how : How) (r : Reply) (h m left : Contents) → IsWellFormed q → SameOf h m (table_asked q) → left ≡ after q m → IsPerformed q how r h (after q h) → Performed q how r h m left
+effected q how r h m left formed s e p = record {
   now = after q h;
   performed = p;
-  here = λ k same. same_after q h m s k same ∙ sym (ap (λ (x : Contents). record_at x k) e);
-  there = λ k n. ap (λ (x : Contents). record_at x k) e ∙ left_apart q m k n;
+  here = λ k same. same_after q h m formed s k same ∙ sym (ap (λ (x : Contents). record_at x k) e);
+  there = λ k n. ap (λ (x : Contents). record_at x k) e ∙ left_apart q m k formed n;
 }
 
 -- without
@@ -65,17 +67,17 @@ kept q how r h m left e p = record {
   there = λ k n. ap (λ (x : Contents). record_at x k) e;
 }
 
-performed_too : (q : Request) (how : How) (r : Reply) (h m left : Contents) → SameOf h m (table_asked q) → IsPerformed q how r m left → Performed q how r h m left
-performed_too q Seen r h m left s p = elim p [
-  | inl e ↦ effected q Seen r h m left s (sym (ap (λ (x : Reply × Contents). x.1) e)) (inl (ap (λ (x : Reply). (x, after q h)) (same_reply q h m s ∙ ap (λ (x : Reply × Contents). x.0) e)))
+performed_too : (q : Request) (how : How) (r : Reply) (h m left : Contents) → IsWellFormed q → SameOf h m (table_asked q) → IsPerformed q how r m left → Performed q how r h m left
+performed_too q Seen r h m left formed s p = elim p [
+  | inl e ↦ effected q Seen r h m left formed s (sym (ap (λ (x : Reply × Contents). x.1) e)) (inl (ap (λ (x : Reply). (x, after q h)) (same_reply q h m formed s ∙ ap (λ (x : Reply × Contents). x.0) e)))
   | inr w ↦ kept q Seen r h m left w.1 (inr (w.0, refl))
 ]
-performed_too q Lost r h m left s p = effected q Lost r h m left s p.1 (p.0, refl)
-performed_too q Discarded r h m left s p = kept q Discarded r h m left p.1 (p.0, refl)
-performed_too q Delayed r h m left s p = kept q Delayed r h m left p.1 (p.0, refl)
-performed_too q Broken r h m left s p = elim p.1 [
+performed_too q Lost r h m left formed s p = effected q Lost r h m left formed s p.1 (p.0, refl)
+performed_too q Discarded r h m left formed s p = kept q Discarded r h m left p.1 (p.0, refl)
+performed_too q Delayed r h m left formed s p = kept q Delayed r h m left p.1 (p.0, refl)
+performed_too q Broken r h m left formed s p = elim p.1 [
   | inl e ↦ kept q Broken r h m left e (p.0, inl refl)
-  | inr e ↦ effected q Broken r h m left s e (p.0, inr refl)
+  | inr e ↦ effected q Broken r h m left formed s e (p.0, inr refl)
 ]
 
 ---- the contents of namespaces
@@ -125,12 +127,12 @@ same_there catalog places at q before m h about ats holds found k e =
     sym (stands_here places at q before h ats found k e) ∙ holds.at k (ap (is_table_of_run catalog) e ∙ about)
 
 many_found : (catalog : List Table) (places : List Place) (at : Name → Name) (q : Request) (how : How) (r : Reply) (before : List StoreContents) (m left : Contents) → is_table_of_run catalog (table_asked q) ≡ true
-    → AreAt places before at → HaveStores places before → HoldAs catalog places before m → IsPerformed q how r m left
+    → AreAt places before at → HaveStores places before → HoldAs catalog places before m → IsWellFormed q → IsPerformed q how r m left
     → (h : Contents) → contents_under before (at (table_asked q).ns) ≡ Some h → ManyCall catalog places at q how r before left
-many_found catalog places at q how r before m left about ats shelved holds performed h found =
-    let p = performed_too q how r h m left (same_there catalog places at q before m h about ats holds found) performed in
+many_found catalog places at q how r before m left about ats shelved holds formed performed h found =
+    let p = performed_too q how r h m left formed (same_there catalog places at q before m h about ats holds found) performed in
     let c : IsCall places (at (table_asked q).ns) q how r before (with_contents before (at (table_asked q).ns) p.now) =
-    record { held = h; left = p.now; placed = sym (ats (table_asked q).ns); found = found; performed = p.performed; others = refl } in
+    record { formed = formed; held = h; left = p.now; placed = sym (ats (table_asked q).ns); found = found; performed = p.performed; others = refl } in
     record {
       now = with_contents before (at (table_asked q).ns) p.now;
       called = c;
@@ -140,10 +142,10 @@ many_found catalog places at q how r before m left about ats shelved holds perfo
     }
 
 many_call : (catalog : List Table) (places : List Place) (at : Name → Name) (q : Request) (how : How) (r : Reply) (before : List StoreContents) (m left : Contents) → is_table_of_run catalog (table_asked q) ≡ true
-    → AreAt places before at → HaveStores places before → HoldAs catalog places before m → IsPerformed q how r m left → ManyCall catalog places at q how r before left
-many_call catalog places at q how r before m left about ats shelved holds performed =
+    → AreAt places before at → HaveStores places before → HoldAs catalog places before m → IsWellFormed q → IsPerformed q how r m left → ManyCall catalog places at q how r before left
+many_call catalog places at q how r before m left about ats shelved holds formed performed =
     let home = taken_out (contents_under before (store_of places before (table_asked q).ns)) (shelved (table_asked q).ns) in
-    many_found catalog places at q how r before m left about ats shelved holds performed home.0 (ap (contents_under before) (sym (ats (table_asked q).ns)) ∙ home.1)
+    many_found catalog places at q how r before m left about ats shelved holds formed performed home.0 (ap (contents_under before) (sym (ats (table_asked q).ns)) ∙ home.1)
 
 ---- all events
 
@@ -176,12 +178,12 @@ many_traced catalog name places at (event.Alter table column kind altered ∷ es
     many_still catalog places at (event.Alter table column kind altered) es before m1 refl (many_traced catalog name places at es ss before m0 m1 (subst (λ (x : List StoreContents). IsTrace [] es x ss (one_store name m1)) t.0 t.1) about.1 ats shelved holds)
 many_traced catalog name places at (event.Call c store q how r given ∷ es) (s ∷ ss) before m0 m1 t about ats shelved holds =
     let one = one_call name store q how r m0 s t.0 in
-    let many = many_call catalog places at q how r before m0 one.left about.0 ats shelved holds one.performed in
+    let many = many_call catalog places at q how r before m0 one.left about.0 ats shelved holds one.formed one.performed in
     let rest = many_traced catalog name places at es ss many.now one.left m1 (subst (λ (x : List StoreContents). IsTrace [] es x ss (one_store name m1)) one.same t.1) about.1 many.ats many.shelved many.holds in
     record { moments = many.now ∷ rest.moments; closing = rest.closing; trace = (many.called, rest.trace); holds = rest.holds }
 many_traced catalog name places at (event.Land number store q how r ∷ es) (s ∷ ss) before m0 m1 t about ats shelved holds =
     let one = one_call name store q how r m0 s t.0 in
-    let many = many_call catalog places at q how r before m0 one.left about.0 ats shelved holds one.performed in
+    let many = many_call catalog places at q how r before m0 one.left about.0 ats shelved holds one.formed one.performed in
     let rest = many_traced catalog name places at es ss many.now one.left m1 (subst (λ (x : List StoreContents). IsTrace [] es x ss (one_store name m1)) one.same t.1) about.1 many.ats many.shelved many.holds in
     record { moments = many.now ∷ rest.moments; closing = rest.closing; trace = (many.called, rest.trace); holds = rest.holds }
 

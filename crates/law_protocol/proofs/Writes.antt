@@ -6,7 +6,8 @@ use Rattle.sdb_types.specs.declared.record.Request.TheVariants as ask
 use Rattle.sdb_types.specs.declared.record.Reply.TheVariants as reply
 use Rattle.sdb_types.specs.Contents.{Contents, record_at, holds, put_reply, reply_to, after}
 use Rattle.sdb_types.specs.Order.{same_key}
-use Rattle.sdb_types.proofs.Public.{same_key_self, same_key_decides}
+use Rattle.sdb_types.specs.Replies.{is_refused}
+use Rattle.sdb_types.proofs.Public.{clash, same_key_self, same_key_decides}
 use Rattle.sdb_model.specs.Rows.{Name}
 use Rattle.sdb_model.specs.Events.{StoreContents, stored_at, table_asked, IsCall}
 use Rattle.law_protocol.specs.Trace.{takes_effect_at}
@@ -17,7 +18,7 @@ use Rattle.law_protocol.proofs.Effects.{AtCall, at_call, after_put, after_delete
 pub record IsWritten (places : List Place) (key : Key) (c : Condition) (new : Option Record) (r : Reply) (before now : List StoreContents) : Type 0 where
   pub at : (k : Key) → stored_at places now k ≡ (if takes_effect_at places key c before now && same_key k key then new else stored_at places before k)
   pub applied : r ≡ reply.Applied → takes_effect_at places key c before now ≡ true
-  pub unmet : (found : Option Record) → r ≡ reply.NotMet found → holds c (stored_at places before key) ≡ false
+  pub unmet : is_refused r ≡ true → holds c (stored_at places before key) ≡ false
   pub wanting : r ≡ reply.NoMemory → takes_effect_at places key c before now ≡ false
 
 reply_applied : (c : Condition) (s : Option Record) (r : Reply) → r ≡ put_reply c s → r ≡ reply.Applied → holds c s ≡ true
@@ -27,11 +28,11 @@ reply_applied c s r e a = by (holds c s) refl (sym a ∙ e)
     by true h x = h
     by false h x = absurd (cc)
 
-reply_unmet : (c : Condition) (s found : Option Record) (r : Reply) → r ≡ put_reply c s → r ≡ reply.NotMet found → holds c s ≡ false
-reply_unmet c s found r e a = by (holds c s) refl (sym a ∙ e)
+reply_unmet : (c : Condition) (s : Option Record) (r : Reply) → r ≡ put_reply c s → is_refused r ≡ true → holds c s ≡ false
+reply_unmet c s r e a = by (holds c s) refl (ap is_refused (sym e) ∙ a)
   where
-    by : (b : Bool) → holds c s ≡ b → reply.NotMet found ≡ (if b then reply.Applied else reply.NotMet s) → holds c s ≡ false
-    by true h x = absurd (cc)
+    by : (b : Bool) → holds c s ≡ b → is_refused (if b then reply.Applied else reply.NotMet s) ≡ true → holds c s ≡ false
+    by true h x = clash (sym x)
     by false h x = h
 
 reply_wanting : (c : Condition) (s : Option Record) (r : Reply) → r ≡ put_reply c s → r ≡ reply.NoMemory → ⊥
@@ -65,9 +66,9 @@ written_done places q key c new r before now a ns replies afters fresh moved exe
     | inl x ↦ rw here (reply_applied c (record_at a.held key) r (x ∙ replies a.held) e)
     | inr x ↦ absurd (fault_applied (sym x ∙ e))
   ];
-  unmet = λ found e. elim executed [
-    | inl x ↦ rw here (reply_unmet c (record_at a.held key) found r (x ∙ replies a.held) e)
-    | inr x ↦ absurd (fault_unmet found (sym x ∙ e))
+  unmet = λ e. elim executed [
+    | inl x ↦ rw here (reply_unmet c (record_at a.held key) r (x ∙ replies a.held) e)
+    | inr x ↦ clash (sym e ∙ ap is_refused x)
   ];
   wanting = λ e. elim executed [
     | inl x ↦ absurd (reply_wanting c (record_at a.held key) r (x ∙ replies a.held) e)
@@ -97,9 +98,6 @@ written_done places q key c new r before now a ns replies afters fresh moved exe
     fault_applied : reply.Fault ≡ reply.Applied → ⊥
     fault_applied e = cc
 
-    fault_unmet : (found : Option Record) → reply.Fault ≡ reply.NotMet found → ⊥
-    fault_unmet found e = cc
-
     fault_wanting : reply.Fault ≡ reply.NoMemory → ⊥
     fault_wanting e = cc
 
@@ -108,7 +106,7 @@ written_undone : (places : List Place) (q : Request) (key : Key) (c : Condition)
 written_undone places q key c new r before now a ns moved executed = record {
   at = λ k. same k ∙ rw took_effect refl;
   applied = λ e. absurd (elim executed [ inl x ↦ wanting_applied (sym x ∙ e) | inr x ↦ fault_applied (sym x ∙ e) ]);
-  unmet = λ found e. absurd (elim executed [ inl x ↦ wanting_unmet found (sym x ∙ e) | inr x ↦ fault_unmet found (sym x ∙ e) ]);
+  unmet = λ e. elim executed [ inl x ↦ clash (sym e ∙ ap is_refused x) | inr x ↦ clash (sym e ∙ ap is_refused x) ];
   wanting = λ e. took_effect;
 }
   where
@@ -124,14 +122,8 @@ written_undone places q key c new r before now a ns moved executed = record {
     wanting_applied : reply.NoMemory ≡ reply.Applied → ⊥
     wanting_applied e = cc
 
-    wanting_unmet : (found : Option Record) → reply.NoMemory ≡ reply.NotMet found → ⊥
-    wanting_unmet found e = cc
-
     fault_applied : reply.Fault ≡ reply.Applied → ⊥
     fault_applied e = cc
-
-    fault_unmet : (found : Option Record) → reply.Fault ≡ reply.NotMet found → ⊥
-    fault_unmet found e = cc
 
 pub put_written : (places : List Place) (store : Name) (rec : Record) (c : Condition) (how : How) (r : Reply) (before now : List StoreContents) → IsCall places store (ask.PutIf rec c) how r before now → holds c (Some rec) ≡ false → IsWritten places rec.key c (Some rec) r before now
 put_written places store rec c how r before now call fresh =

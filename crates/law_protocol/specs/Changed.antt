@@ -3,6 +3,7 @@ use Rattle.std.specs.Prelude.{◌≡◌, Bool, true, false, List, [], ◌∷◌,
 use Rattle.std.specs.List.{AllByRecursion}
 use Rattle.std.specs.Option.{option_map_or}
 use Rattle.law_protocol.specs.Types.{Condition, Event, Key, Place, Record, Request}
+use Rattle.sdb_types.specs.declared.record.Put.{Put}
 use Rattle.sdb_types.specs.declared.record.Request.TheVariants as ask
 use Rattle.sdb_types.specs.Contents.{holds}
 use Rattle.sdb_model.specs.Events.{Contact, StoreContents, contact_of, stored_at}
@@ -14,12 +15,17 @@ pub record Change : Type 0 where
   pub left : Option Record
   pub condition : Condition
 
+-- what a put asks to change
+abbrev pub change_of : Put → Change
+change_of p = record { key = p.rec.key; left = Some p.rec; condition = p.condition }
+
 -- what a request asks to change
 abbrev pub changes_of : Request → List Change
 changes_of (ask.Get key) = []
 changes_of (ask.Scan span) = []
 changes_of (ask.PutIf r c) = record { key = r.key; left = Some r; condition = c } ∷ []
 changes_of (ask.DeleteIf key c) = record { key = key; left = None; condition = c } ∷ []
+changes_of (ask.PutAll b) = map change_of b
 
 -- what an event asks a store to change
 abbrev pub changes_in : Event → List Change

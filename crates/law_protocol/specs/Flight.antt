@@ -1,10 +1,14 @@
 -- Requests whose calls were delayed: what each asks by the plan of its transaction, and what stays so while it may take effect.
-use Rattle.std.specs.Prelude.{◌≡◌, ℕ, ◌<◌, ◌^◌, true, false, List, Option, Some, None}
+use Rattle.std.specs.Prelude.{◌≡◌, ℕ, ◌<◌, ◌^◌, true, false, List, length, map, Option, Some, None}
+use Rattle.std.specs.List.{AllByRecursion}
 use Rattle.std.specs.Option.{option_map}
 use Rattle.law_protocol.specs.Types.{Decision, Key, Request, State}
+use Rattle.sdb_types.specs.declared.record.Put.{Put}
 use Rattle.sdb_types.specs.declared.record.State.TheVariants as state
 use Rattle.sdb_types.specs.declared.record.Condition.TheVariants as condition
 use Rattle.sdb_types.specs.declared.record.Request.TheVariants as ask
+use Rattle.sdb_types.specs.Contents.{sent}
+use Rattle.sdb_types.specs.Order.{are_distinct}
 use Rattle.sdb_record.specs.declared.coordinator.Decision.TheVariants.{Committed, Aborted}
 use Rattle.sdb_record.specs.Coordinator.{coordinator_row_of}
 use Rattle.sdb_record.specs.Meta.{is_committed, is_moment}
@@ -19,26 +23,48 @@ use Rattle.law_protocol.specs.Records.{record_prepared_by, record_left_by}
 
 ---- what it asks
 
--- the request that prepares a key
-abbrev pub prepare_of : (ℕ → Plan) → ℕ → Key → Request
-prepare_of plan t k = ask.PutIf (record_prepared_by plan t k) (condition_of (option_map id (base_of (written (plan t) k))))
+-- the put that prepares a key
+abbrev pub prepare_at : (ℕ → Plan) → ℕ → Key → Put
+prepare_at plan t k = record { rec = record_prepared_by plan t k; condition = condition_of (option_map id (base_of (written (plan t) k))) }
 
--- the request that rolls what a transaction prepared at a key, where that is in this state, by a decision
-abbrev pub roll_of : (ℕ → Plan) → ℕ → Decision → Key → State → Request
-roll_of plan t Committed k s = ask.PutIf (record_left_by plan t k) (condition.Version (id t) s)
-roll_of plan t Aborted k s = undo (condition.Version (id t) s) k (option_map (λ u. record_left_by plan u k) (base_of (written (plan t) k)))
+-- A request prepares keys that differ: it makes these puts in one call.
+pub record AsksPrepare (plan : ℕ → Plan) (q : Request) (t : ℕ) (ks : List Key) : Type 0 where
+  pub some : 0 < length ks
+  pub once_each : are_distinct ks ≡ true
+  pub asks : q ≡ sent (map (prepare_at plan t) ks)
 
--- a request is such a roll, of an unresolved record
-abbrev pub IsRollOf : (ℕ → Plan) → Request → ℕ → Decision → Key → Type 0
-IsRollOf plan q t d k = (s : State) × (is_committed s ≡ false) × (q ≡ roll_of plan t d k s)
+-- the put that rolls what a transaction prepared at a key forward, where that is in this state
+abbrev pub roll_forward_at : (ℕ → Plan) → ℕ → Key × State → Put
+roll_forward_at plan t x = record { rec = record_left_by plan t x.0; condition = condition.Version (id t) x.1 }
+
+-- A request rolls forward keys that differ: it makes these puts in one call, each in an unresolved state of what was prepared.
+pub record AsksRollForward (plan : ℕ → Plan) (q : Request) (t : ℕ) (ks : List Key) : Type 0 where
+  pub found : List (Key × State)
+  pub keys : ks ≡ map (λ (x : Key × State). x.0) found
+  pub some : 0 < length ks
+  pub once_each : are_distinct ks ≡ true
+  pub unresolved : AllByRecursion (λ (x : Key × State). is_committed x.1 ≡ false) found
+  pub asks : q ≡ sent (map (roll_forward_at plan t) found)
+
+-- the request that rolls what a transaction prepared at a key back, where that is in this state
+abbrev pub roll_back_at : (ℕ → Plan) → ℕ → Key → State → Request
+roll_back_at plan t k s = undo (condition.Version (id t) s) k (option_map (λ u. record_left_by plan u k) (base_of (written (plan t) k)))
+
+-- a request is such a roll back, of an unresolved record
+abbrev pub AsksRollBack : (ℕ → Plan) → Request → ℕ → Key → Type 0
+AsksRollBack plan q t k = (s : State) × (is_committed s ≡ false) × (q ≡ roll_back_at plan t k s)
+
+abbrev pub AsksRoll : (ℕ → Plan) → Request → ℕ → List Key → Decision → Type 0
+AsksRoll plan q t ks Committed = AsksRollForward plan q t ks
+AsksRoll plan q t ks Aborted = OfOneKey ks (AsksRollBack plan q t)
 
 -- A request is what an event with this action asks of a store. An event with any other action asks nothing.
 abbrev pub HasForm : (ℕ → Plan) → Request → Action → Type 0
 HasForm plan q Other = is_read q ≡ true
-HasForm plan q (Prepares t ks word) = OfOneKey ks (λ k. q ≡ prepare_of plan t k)
+HasForm plan q (Prepares t ks word) = AsksPrepare plan q t ks
 HasForm plan q (Decides t word) = q ≡ ask.PutIf (coordinator_row_of (id t) Committed (plan t).now) condition.Absent
 HasForm plan q (Aborts t moment word) = q ≡ ask.PutIf (coordinator_row_of (id t) Aborted moment) condition.Absent
-HasForm plan q (Rolls t ks d) = OfOneKey ks (IsRollOf plan q t d)
+HasForm plan q (Rolls t ks d) = AsksRoll plan q t ks d
 HasForm plan q (Removes k t) = q ≡ ask.DeleteIf k (condition.Version (id t) state.Committed)
 HasForm plan q (Begins t c) = ⊥
 HasForm plan q (Takes t) = ⊥

@@ -1,7 +1,8 @@
 -- The actions of events in the protocol, and the state that a list of them leads to: what was answered, and what took effect.
-use Rattle.std.specs.Prelude.{◌≡◌, ◌≢◌, ◌⊎◌, ℕ, ℤ, pos, ◌+◌, ◌<◌, Bool, true, false, ◌&&◌, ◌||◌, ◌==◌, if◌then◌else◌, List, [], ◌∷◌, Option, Some, None}
+use Rattle.std.specs.Prelude.{◌≡◌, ◌≢◌, ◌⊎◌, ℕ, ℤ, pos, ◌+◌, ◌<◌, Bool, true, false, ◌&&◌, ◌==◌, if◌then◌else◌, List, Option, Some, None}
 use Rattle.law_protocol.specs.Types.{Decision, Key}
 use Rattle.sdb_types.specs.Order.{same_key}
+pub use Rattle.sdb_types.specs.Order.{has_key}
 use Rattle.sdb_record.specs.declared.coordinator.Decision.TheVariants.{Committed, Aborted}
 use Rattle.law_protocol.specs.Plan.{Plan, written}
 
@@ -99,11 +100,6 @@ at f t x u = if u == t then x else f u
 
 abbrev pub at_key : {X : Type 0} → (Key → X) → Key → X → Key → X
 at_key f k x q = if same_key q k then x else f q
-
--- a key is among keys
-abbrev pub has_key : List Key → Key → Bool
-has_key [] q = false
-has_key (k ∷ ks) q = has_key ks q || same_key q k
 
 abbrev pub at_keys : {X : Type 0} → (Key → X) → List Key → (Key → X) → Key → X
 at_keys f ks x q = if has_key ks q then x q else f q

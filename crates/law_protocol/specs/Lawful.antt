@@ -1,6 +1,7 @@
 -- The rules of the protocol: which event may come after which. They quote the events so far, and the replies in them,
 -- never what the stores hold. Lists have the newest event first.
-use Rattle.std.specs.Prelude.{◌≡◌, ◌≢◌, ◌⊎◌, ℕ, ℤ, ◌^◌, ◌<◌, Bool, true, false, List, [], ◌∷◌, Option, Some, None, Ok, slice_get}
+use Rattle.std.specs.Prelude.{◌≡◌, ◌≢◌, ◌⊎◌, ℕ, ℤ, ◌^◌, ◌<◌, Bool, true, false, List, [], ◌∷◌, length, map, Option, Some, None, Ok, slice_get}
+use Rattle.std.specs.List.{AllByRecursion}
 use Rattle.std.specs.Option.{option_map}
 use Rattle.std.specs.Result.{result_ok}
 use Rattle.law_protocol.specs.Types.{Answer, Decision, Event, How, Key, Record, Reply, Request, State, TxId, Write}
@@ -8,12 +9,16 @@ use Rattle.sdb_types.specs.declared.record.State.TheVariants as state
 use Rattle.sdb_types.specs.declared.record.Condition.TheVariants as condition
 use Rattle.sdb_types.specs.declared.record.Request.TheVariants as ask
 use Rattle.sdb_types.specs.declared.record.Reply.TheVariants as reply
-use Rattle.sdb_types.specs.Contents.{in_span, record_among}
+use Rattle.sdb_types.specs.declared.record.Put.{Put}
+use Rattle.sdb_types.specs.Contents.{in_span, record_among, sent}
+use Rattle.sdb_types.specs.Order.{are_distinct}
 use Rattle.sdb_record.specs.declared.coordinator.Decision.TheVariants as decision
 use Rattle.sdb_record.specs.Coordinator.{coordinator_key_of, coordinator_row_of, decision_in}
 use Rattle.sdb_record.specs.Meta.{id_in, is_in, is_moment, is_committed}
-use Rattle.sdb_record.specs.Moved.{version_of, condition_of, is_unchanged}
+use Rattle.sdb_record.specs.Groups.{keys_of_writes}
+use Rattle.sdb_record.specs.Moved.{is_unchanged}
 use Rattle.sdb_record.specs.Parts.{before_record}
+use Rattle.sdb_record.specs.Puts.{prepares_of}
 use Rattle.sdb_record.specs.Rolls.{IsWrite, prepared_record, forward_record, is_tombstone, undo}
 use Rattle.sdb_record.specs.Among.{version_among}
 use Rattle.sdb_model.specs.declared.answer.Answer.TheVariants as answer
@@ -23,7 +28,7 @@ use Rattle.sdb_model.specs.Sql.{reads_begin, reads_commit}
 use Rattle.sdb_model.specs.Rows.{Name}
 use Rattle.law_protocol.specs.Plan.{Plan, write_at, written, version_read_at}
 use Rattle.sdb_model.specs.ReadSet.{ReadItem, KeyRead, SpanRead}
-use Rattle.law_protocol.specs.History.{Action, Other, Begins, Takes, Prepares, Checks, Decides, Aborts, Rolls, Removes, Ends, Stops, Ack, Yes, No, NoAck, OutOfMemory, ProtocolState, Preparing, Deciding, initial_state, state_after_event, state_after, IsPrepared}
+use Rattle.law_protocol.specs.History.{Action, Other, Begins, Takes, Prepares, Checks, Decides, Aborts, Rolls, Removes, Ends, Stops, Ack, Yes, No, NoAck, OutOfMemory, ProtocolState, Preparing, Deciding, has_key, initial_state, state_after_event, state_after, IsPrepared}
 use Rattle.sdb_model.specs.Tables.{is_data}
 
 -- An event, its action, and the transaction that its answer ends, if one is ended.
@@ -51,6 +56,7 @@ abbrev pub InReply : Reply → Record → Type 0
 InReply (reply.Found (Some r)) x = x ≡ r
 InReply (reply.Rows rs) x = record_among rs x.key ≡ Some x
 InReply (reply.NotMet (Some r)) x = x ≡ r
+InReply (reply.NotAll place (Some r)) x = x ≡ r
 InReply _ x = ⊥
 
 abbrev pub InEvent : Event → Record → Type 0
@@ -115,6 +121,7 @@ ack_of (reply.NotMet found) = No
 ack_of reply.NoMemory = OutOfMemory
 ack_of (reply.Found found) = NoAck
 ack_of (reply.Rows rows) = NoAck
+ack_of (reply.NotAll place there) = No
 ack_of reply.Fault = NoAck
 
 -- an event is a call with this request and reply
@@ -168,20 +175,23 @@ pub record MayTake (plan : ℕ → Plan) (past : List Labelled) (e : Event) (t :
   pub read_set : (i : ℕ) (k : Key) (u : ℕ) → version_read_at (plan t) i k ≡ Some (Some u) → (b : Record) × IsSettled past k b × (id_in b.columns ≡ Some (id u))
   pub tables : (i : ℕ) (k : Key) (version : Option ℕ) → version_read_at (plan t) i k ≡ Some version → is_data k ≡ true
 
--- a prepare
-pub record MayPrepare (plan : ℕ → Plan) (past : List Labelled) (e : Event) (t : ℕ) (k : Key) (word : Ack) : Type 0 where
+-- A prepare of one or more keys, by one request.
+pub record MayPrepare (plan : ℕ → Plan) (past : List Labelled) (e : Event) (t : ℕ) (ks : List Key) (word : Ack) : Type 0 where
   pub client : ℕ
-  pub write : Write
+  pub group : List Write
   pub r : Reply
   pub within : InCommit (protocol_state past) client t
-  -- it puts what the transaction writes, where the base is still there
-  pub at : write_at (plan t) k ≡ Some write
-  pub call : IsCallOf e client (ask.PutIf (prepared_record write (id t) (plan t).now) (condition_of (version_of write.base))) r
+  -- it puts what the transaction writes at keys that differ, where each base is still there
+  pub keys : ks ≡ keys_of_writes group
+  pub some : 0 < length ks
+  pub once_each : are_distinct ks ≡ true
+  pub each : AllByRecursion (λ (w : Write). write_at (plan t) w.key ≡ Some w) group
+  pub call : IsCallOf e client (prepares_of (id t) (plan t).now group) r
   pub word_is : word ≡ ack_of r
   -- prepares come before checks: a check before a prepare does not show what the transaction rests on
   pub stage : (protocol_state past).stage t ≡ Preparing
   -- one prepare for each key: a second could put again what was rolled back
-  pub once : (protocol_state past).asked t k ≡ false
+  pub once : (k : Key) → has_key ks k ≡ true → (protocol_state past).asked t k ≡ false
 
 -- The reply to a check finds all as read: a key that the transaction doesn't write has the version read, in state 3, or no
 -- record where none was read. Of a scan this holds of each key of its span.
@@ -226,32 +236,52 @@ pub record MayAbort (past : List Labelled) (e : Event) (t : ℕ) (moment : ℤ) 
   pub fits : t < 2 ^ 128
   pub moment_is : is_moment moment ≡ true
 
--- A roll, by anybody: of what the transaction prepared there, where it is still there.
-pub record MayRoll (plan : ℕ → Plan) (past : List Labelled) (e : Event) (t : ℕ) (k : Key) : Type 0 where
+-- What may be rolled, by anybody: the record that a transaction prepared at a key, in an unresolved state.
+pub record MayRoll (plan : ℕ → Plan) (past : List Labelled) (t : ℕ) (k : Key) (r : Record) (s : State) : Type 0 where
+  pub is_open : is_committed s ≡ false
+  pub outside : is_data k ≡ true
+  pub prepared : IsPreparedThere plan past t k r
+
+-- a record in a state that is rolled forward, where it is still there
+abbrev pub roll_forward_of : TxId → ℤ → Record × State → Put
+roll_forward_of t moment x = record { rec = forward_record x.0 moment; condition = condition.Version t x.1 }
+
+-- A roll forward of one or more records, by one request.
+pub record MayRollForward (plan : ℕ → Plan) (past : List Labelled) (e : Event) (t : ℕ) (ks : List Key) : Type 0 where
+  pub client : ℕ
+  pub rolled : List (Record × State)
+  pub r : Reply
+  -- it puts what the transaction leaves at keys that differ, where each record is still there
+  pub keys : ks ≡ map (λ (x : Record × State). x.0.key) rolled
+  pub some : 0 < length ks
+  pub once_each : are_distinct ks ≡ true
+  pub each : AllByRecursion (λ (x : Record × State). MayRoll plan past t x.0.key x.0 x.1) rolled
+  pub moment : ℤ
+  -- only what is known to be committed is rolled forward
+  pub known : IsKnownCommitted plan past t moment
+  pub call : IsCallOf e client (sent (map (roll_forward_of (id t) moment) rolled)) r
+
+-- A roll back of one record.
+pub record MayRollBack (plan : ℕ → Plan) (past : List Labelled) (e : Event) (t : ℕ) (k : Key) : Type 0 where
   pub client : ℕ
   pub rolled : Record
   pub s : State
   pub r : Reply
-  pub is_open : is_committed s ≡ false
-  pub outside : is_data k ≡ true
-  pub prepared : IsPreparedThere plan past t k rolled
-
-pub record MayRollForward (plan : ℕ → Plan) (past : List Labelled) (e : Event) (t : ℕ) (k : Key) : Type 0 where
-  pub roll : MayRoll plan past e t k
-  pub moment : ℤ
-  -- only what is known to be committed is rolled forward
-  pub known : IsKnownCommitted plan past t moment
-  pub call : IsCallOf e roll.client (ask.PutIf (forward_record roll.rolled moment) (condition.Version (id t) roll.s)) roll.r
-
-pub record MayRollBack (plan : ℕ → Plan) (past : List Labelled) (e : Event) (t : ℕ) (k : Key) : Type 0 where
-  pub roll : MayRoll plan past e t k
+  pub roll : MayRoll plan past t k rolled s
   -- only what is known to be aborted is rolled back
   pub known : IsKnownAborted past t
-  pub call : IsCallOf e roll.client (undo (condition.Version (id t) roll.s) k (before_record roll.rolled)) roll.r
+  pub call : IsCallOf e client (undo (condition.Version (id t) s) k (before_record rolled)) r
 
-abbrev pub MayRollBy : (ℕ → Plan) → List Labelled → Event → ℕ → Key → Decision → Type 0
-MayRollBy plan past e t k decision.Committed = MayRollForward plan past e t k
-MayRollBy plan past e t k decision.Aborted = MayRollBack plan past e t k
+-- of a list of one key
+abbrev pub OfOneKey : List Key → (Key → Type 0) → Type 0
+OfOneKey [] P = ⊥
+OfOneKey (k ∷ []) P = P k
+OfOneKey (k ∷ l ∷ ks) P = ⊥
+
+-- One request rolls any number of records forward, and one back.
+abbrev pub MayRollBy : (ℕ → Plan) → List Labelled → Event → ℕ → List Key → Decision → Type 0
+MayRollBy plan past e t ks decision.Committed = MayRollForward plan past e t ks
+MayRollBy plan past e t ks decision.Aborted = OfOneKey ks (MayRollBack plan past e t)
 
 -- VACUUM's removal of a tombstone
 pub record MayRemove (past : List Labelled) (e : Event) (k : Key) (t : ℕ) : Type 0 where
@@ -274,28 +304,23 @@ is_quiet (event.Call client store (ask.Get key) how r answer) = true
 is_quiet (event.Call client store (ask.Scan span) how r answer) = true
 is_quiet (event.Call client store (ask.PutIf rec condition) how r answer) = false
 is_quiet (event.Call client store (ask.DeleteIf key condition) how r answer) = false
+is_quiet (event.Call client store (ask.PutAll batch) how r answer) = false
 is_quiet (event.Stop client) = false
 is_quiet (event.Clock moment) = true
 is_quiet (event.Idle client) = true
 is_quiet (event.Land number store q how r) = false
 is_quiet (event.Alter table column kind altered) = true
 
--- of a list of one key
-abbrev pub OfOneKey : List Key → (Key → Type 0) → Type 0
-OfOneKey [] P = ⊥
-OfOneKey (k ∷ []) P = P k
-OfOneKey (k ∷ l ∷ ks) P = ⊥
-
--- An event may play this part after the events so far. A request prepares one key, and rolls one key.
+-- An event may have this action after the events so far.
 abbrev pub IsEnabled : (ℕ → Plan) → List Labelled → Event → Action → Type 0
 IsEnabled plan past e Other = is_quiet e ≡ true
 IsEnabled plan past e (Begins t c) = MayBegin past e t c
 IsEnabled plan past e (Takes t) = MayTake plan past e t
-IsEnabled plan past e (Prepares t ks word) = OfOneKey ks (λ k. MayPrepare plan past e t k word)
+IsEnabled plan past e (Prepares t ks word) = MayPrepare plan past e t ks word
 IsEnabled plan past e (Checks t i) = MayCheck plan past e t i
 IsEnabled plan past e (Decides t word) = MayDecide plan past e t word
 IsEnabled plan past e (Aborts t moment word) = MayAbort past e t moment word
-IsEnabled plan past e (Rolls t ks d) = OfOneKey ks (λ k. MayRollBy plan past e t k d)
+IsEnabled plan past e (Rolls t ks d) = MayRollBy plan past e t ks d
 IsEnabled plan past e (Removes k t) = MayRemove past e k t
 IsEnabled plan past e (Ends t) = ⊥
 IsEnabled plan past e (Stops c) = e ≡ event.Stop c

@@ -1,10 +1,12 @@
 -- A COMMIT decides after its transaction's point, and its prepares are up to that.
-use Rattle.std.proofs.Common.{◌≡◌, ◌⊎◌, inl, inr, ◌<◌, ◌≤◌, ◌+◌, ℕ, zero, suc, Bool, true, false, List, [], ◌∷◌, length, take, Option, Some, None, refl, sym, ap, subst, ◌∙◌, arith}
-use Rattle.std.specs.Prelude.{◌&&◌, ◌==◌, Contains, filter, fold, if◌then◌else◌, nat_le, nat_lt, unwrap_or}
+use Rattle.std.proofs.Common.{◌≡◌, ◌⊎◌, inl, inr, ◌<◌, ◌≤◌, ◌+◌, ℕ, zero, suc, Bool, true, false, List, [], ◌∷◌, length, map, take, Option, Some, None, refl, sym, ap, subst, ◌∙◌, arith}
+use Rattle.std.specs.Prelude.{◌&&◌, ◌==◌, Contains, filter, fold, if◌then◌else◌, nat_le, nat_lt, sum_by, unwrap_or}
 use Rattle.std.specs.List.{AllByRecursion, cons_option, enumerate_from, filter_map}
 use Rattle.std.specs.Option.{option_map_or}
 use Rattle.std.proofs.lemmas.Bool.{and_parts}
 use Rattle.std.proofs.lemmas.Bool.Decides.{nat_tests}
+use Rattle.std.proofs.lemmas.List.{length-map}
+use Rattle.std.proofs.lemmas.List.Sums.{sum_by-cons}
 use Rattle.law_runs.specs.Types.{Event, How, Key, Record, Reply, Request, TxId}
 use Rattle.sdb_types.specs.declared.record.Reply.TheVariants as reply
 use Rattle.sdb_types.specs.declared.record.Request.TheVariants as ask
@@ -12,14 +14,17 @@ use Rattle.sdb_types.specs.Replies.{is_answered, is_applied}
 use Rattle.sdb_types.proofs.Public.{clash, itself, none_some, one_of, some_is}
 use Rattle.sdb_model.specs.declared.event.Event.TheVariants as event
 use Rattle.sdb_model.specs.declared.event.How.TheVariants.{Seen, Lost, Discarded, Delayed, Broken}
-use Rattle.sdb_model.specs.Calls.{StoreCall, calls_before, calls_by, calls_of, end_of, key_asked, made_by, put_by}
-use Rattle.sdb_model.specs.Counted.{prepares_in}
-use Rattle.sdb_model.specs.Transactions.{Executed, commit_of, is_prepared_by, last_prepare, point, prepares, statements_by}
+use Rattle.sdb_model.specs.Calls.{StoreCall, calls_before, calls_by, calls_of, end_of, made_by}
+use Rattle.sdb_model.specs.Counted.{prepares_in, puts_prepared}
+use Rattle.sdb_model.specs.Requests.{keys_asked, records_put}
+use Rattle.sdb_model.specs.Transactions.{Executed, commit_of, is_prepared_by, is_prepared_record, last_prepare, point, prepares, statements_by}
 use Rattle.law_answers.specs.Rolled.{AnsweredWereSeen}
 use Rattle.law_answers.proofs.Public.{each_in, kept_in}
 use Rattle.law_runs.proofs.Calls.{a_later, the_first}
 use Rattle.law_runs.specs.Laws.{CallsAreOfStatements, PreparesAreOwn}
-use Rattle.law_runs.specs.Written.{Decides, IsAfterPoint, PreparesAll, keys_applied, keys_prepared}
+use Rattle.law_runs.specs.Written.{AreAsMany, Decides, IsAfterPoint, PreparesAll, groups_applied, groups_of_keys, groups_prepared}
+use Rattle.law_runs.proofs.GroupPuts.{any_found}
+use Rattle.law_runs.proofs.KeyGroups.{groups_sum}
 use Rattle.law_runs.proofs.Statements.{none_in}
 
 ---- lists
@@ -83,49 +88,87 @@ module _ {X : Type 0} (p a b : X → Bool) where
       by false false true e f g l ih few = (λ k. clash (sym k ∙ e), ih (subst (λ (w : Bool). length (filter p xs) ≤ length (filter p (if w then x ∷ filter a (filter b xs) else filter a (filter b xs)))) f l))
       by false u false e f g l ih few = (λ k. clash (sym k ∙ e), ih l)
 
--- each prepare is of a key
-prepare_key : (id : TxId) (q : Request) → prepares id q ≡ true → (r : Record) × (put_by q ≡ Some r) × (key_asked q ≡ Some r.key)
-prepare_key id (ask.PutIf rec condition) e = (rec, refl, refl)
-prepare_key id (ask.Get key) e = clash (sym e)
-prepare_key id (ask.Scan span) e = clash (sym e)
-prepare_key id (ask.DeleteIf key condition) e = clash (sym e)
+-- each prepare puts a record
+prepare_puts : (id : TxId) (q : Request) → prepares id q ≡ true → (r : Record) × Contains (records_put q) r
+prepare_puts id q e = let x = any_found (is_prepared_record id) (records_put q) e in (x.0, x.1)
 
-keys_long : (id : TxId) (ms : List StoreCall) → length (keys_prepared id ms) ≡ length (prepares_in id ms)
-keys_long id [] = refl
-keys_long id (m ∷ ms) = by (prepares id m.request) refl (keys_long id ms)
+-- and is of as many keys as it puts records
+keys_put : (id : TxId) (q : Request) → prepares id q ≡ true → length (keys_asked q) ≡ length (records_put q)
+keys_put id (ask.PutIf rec condition) e = refl
+keys_put id (ask.PutAll batch) e = length-map (records_put (ask.PutAll batch)) (λ (x : Record). x.key)
+keys_put id (ask.Get key) e = clash (sym e)
+keys_put id (ask.Scan span) e = clash (sym e)
+keys_put id (ask.DeleteIf key condition) e = clash (sym e)
+
+groups_long : (id : TxId) (ms : List StoreCall) → length (groups_prepared id ms) ≡ length (prepares_in id ms)
+groups_long id ms = length-map (prepares_in id ms) (λ (x : StoreCall). keys_asked x.request)
+
+keys_sum : (id : TxId) (ms : List StoreCall) → puts_prepared id ms ≡ sum_by (λ (ks : List Key). length ks) (groups_prepared id ms)
+keys_sum id [] = refl
+keys_sum id (m ∷ ms) = by (prepares id m.request) refl (keys_sum id ms)
   where
-    by : (b : Bool) → prepares id m.request ≡ b → length (keys_prepared id ms) ≡ length (prepares_in id ms) → length (filter_map (λ (x : StoreCall). key_asked x.request) (if b then m ∷ prepares_in id ms else prepares_in id ms)) ≡ length (if b then m ∷ prepares_in id ms else prepares_in id ms)
-    by true e ih = ap (λ (o : Option Key). length (cons_option o (keys_prepared id ms))) (prepare_key id m.request e).2 ∙ ap suc ih
+    by : (b : Bool) → prepares id m.request ≡ b → puts_prepared id ms ≡ sum_by (λ (ks : List Key). length ks) (groups_prepared id ms)
+        → sum_by (λ (x : StoreCall). length (records_put x.request)) (if b then m ∷ prepares_in id ms else prepares_in id ms) ≡ sum_by (λ (ks : List Key). length ks) (map (λ (x : StoreCall). keys_asked x.request) (if b then m ∷ prepares_in id ms else prepares_in id ms))
+    by true e ih = sum_by-cons (λ (x : StoreCall). length (records_put x.request)) m (prepares_in id ms) ∙ both (length (records_put m.request)) (length (keys_asked m.request)) (keys_put id m.request e) ih ∙ sym (sum_by-cons (λ (ks : List Key). length ks) (keys_asked m.request) (groups_prepared id ms))
+      where
+        both : (a b : ℕ) {c d : ℕ} → b ≡ a → c ≡ d → a + c ≡ b + d
+        both a b e f = omega (arith, e, f)
     by false e ih = ih
 
-short : (n : ℕ) (ks : List Key) → length (take n ks) ≤ length ks
-short zero ks = omega arith
+short : {X : Type 0} (n : ℕ) (xs : List X) → length (take n xs) ≤ length xs
+short zero xs = omega arith
 short (suc n) [] = omega arith
-short (suc n) (k ∷ ks) = let l = short n ks in up (length (take n ks)) (length ks) l
+short (suc n) (x ∷ xs) = let l = short n xs in up (length (take n xs)) (length xs) l
   where
     up : (a b : ℕ) → a ≤ b → suc a ≤ suc b
     up a b l = omega (arith, l)
 
+-- what is taken of a list is all of it, where it is as long
+whole : {X : Type 0} (n : ℕ) (xs : List X) → length (take n xs) ≡ length xs → take n xs ≡ xs
+whole zero [] e = refl
+whole zero (x ∷ xs) e = absurd (none (length xs) e)
+  where
+    none : (a : ℕ) → ◌≡◌ {A = ℕ} 0 (suc a) → ⊥
+    none a e = absurd (omega (arith, e))
+whole (suc n) [] e = refl
+whole (suc n) (x ∷ xs) e = ap (λ ys. x ∷ ys) (whole n xs (down (length (take n xs)) (length xs) e))
+  where
+    down : (a b : ℕ) → suc a ≡ suc b → a ≡ b
+    down a b e = omega (arith, e)
+
 -- Where a call decides, each prepare was applied before it.
-applied_before : (keys : List Key) (id : TxId) (calls : List StoreCall) (m p : StoreCall) → PreparesAll keys id calls → keys_applied id (calls_before m.at calls) ≡ keys → Contains calls p → prepares id p.request ≡ true → (is_applied p.reply ≡ true) × (nat_lt p.at m.at ≡ true)
-applied_before keys id calls m p h all has is =
+applied_before : (groups : List (List Key)) (id : TxId) (calls : List StoreCall) (m p : StoreCall) → PreparesAll groups id calls → groups_applied id (calls_before m.at calls) ≡ groups → Contains calls p → prepares id p.request ≡ true → (is_applied p.reply ≡ true) × (nat_lt p.at m.at ≡ true)
+applied_before groups id calls m p h all has is =
     each_in (λ (x : StoreCall). prepares id x.request ≡ true → (is_applied x.reply ≡ true) × (nat_lt x.at m.at ≡ true)) calls p
     (all_kept (λ (x : StoreCall). prepares id x.request) (λ (x : StoreCall). is_applied x.reply) (λ (x : StoreCall). nat_lt x.at m.at) calls
-    (few (length (prepares_in id calls)) (length (take h.count keys)) (length keys) (length (prepares_in id (filter (λ (x : StoreCall). is_applied x.reply) (calls_before m.at calls))))
-    (sym (keys_long id calls) ∙ ap (λ (ks : List Key). length ks) h.prepared) (short h.count keys) (sym (keys_long id (filter (λ (x : StoreCall). is_applied x.reply) (calls_before m.at calls))) ∙ ap (λ (ks : List Key). length ks) all))) has is
+    (few (length (prepares_in id calls)) (length (take h.count groups)) (length groups) (length (prepares_in id (filter (λ (x : StoreCall). is_applied x.reply) (calls_before m.at calls))))
+    (sym (groups_long id calls) ∙ ap (λ (gs : List (List Key)). length gs) h.prepared) (short h.count groups) (sym (groups_long id (filter (λ (x : StoreCall). is_applied x.reply) (calls_before m.at calls))) ∙ ap (λ (gs : List (List Key)). length gs) all))) has is
   where
     few : (a b c d : ℕ) → a ≡ b → b ≤ c → d ≡ c → a ≤ d
     few a b c d e l f = omega (arith, e, l, f)
 
--- There it has made as many prepares as there are keys.
-pub as_many : (keys : List Key) (id : TxId) (calls : List StoreCall) (m : StoreCall) → PreparesAll keys id calls → keys_applied id (calls_before m.at calls) ≡ keys → length (prepares_in id calls) ≡ length keys
-as_many keys id calls m h all =
-    both (length (prepares_in id calls)) (length (take h.count keys)) (length keys) (length (prepares_in id (filter (λ (x : StoreCall). is_applied x.reply) (calls_before m.at calls))))
-    (sym (keys_long id calls) ∙ ap (λ (ks : List Key). length ks) h.prepared) (short h.count keys) (sym (keys_long id (filter (λ (x : StoreCall). is_applied x.reply) (calls_before m.at calls))) ∙ ap (λ (ks : List Key). length ks) all)
+-- There it has made as many prepares as there are groups.
+all_groups : (groups : List (List Key)) (id : TxId) (calls : List StoreCall) (m : StoreCall) → PreparesAll groups id calls → groups_applied id (calls_before m.at calls) ≡ groups → length (prepares_in id calls) ≡ length groups
+all_groups groups id calls m h all =
+    both (length (prepares_in id calls)) (length (take h.count groups)) (length groups) (length (prepares_in id (filter (λ (x : StoreCall). is_applied x.reply) (calls_before m.at calls))))
+    (sym (groups_long id calls) ∙ ap (λ (gs : List (List Key)). length gs) h.prepared) (short h.count groups) (sym (groups_long id (filter (λ (x : StoreCall). is_applied x.reply) (calls_before m.at calls))) ∙ ap (λ (gs : List (List Key)). length gs) all)
     (fewer (λ (x : StoreCall). prepares id x.request) (λ (x : StoreCall). is_applied x.reply) (λ (x : StoreCall). nat_lt x.at m.at) calls)
   where
     both : (a b c d : ℕ) → a ≡ b → b ≤ c → d ≡ c → d ≤ a → a ≡ c
     both a b c d e l f k = omega (arith, e, l, f, k)
+
+-- So it has prepared as many groups as the keys are in, and as many records as there are keys.
+pub as_many : (keys : List Key) (id : TxId) (calls : List StoreCall) (m : StoreCall) → PreparesAll (groups_of_keys keys) id calls → groups_applied id (calls_before m.at calls) ≡ groups_of_keys keys → AreAsMany keys id calls
+as_many keys id calls m h all = record { groups = many; records = keys_sum id calls ∙ ap (sum_by (λ (ks : List Key). length ks)) (h.prepared ∙ whole h.count groups taken) ∙ groups_sum keys }
+  where
+    groups : List (List Key)
+    groups = groups_of_keys keys
+
+    many : length (prepares_in id calls) ≡ length groups
+    many = all_groups groups id calls m h all
+
+    taken : length (take h.count groups) ≡ length groups
+    taken = sym (ap (λ (gs : List (List Key)). length gs) h.prepared) ∙ groups_long id calls ∙ many
 
 ---- the last prepare
 
@@ -216,6 +259,7 @@ module _ (id : TxId) where
       now (event.Call d store q Seen (reply.NotMet found) a) is same = clash (sym is)
       now (event.Call d store q Seen (reply.Found found) a) is same = clash (sym is)
       now (event.Call d store q Seen (reply.Rows rows) a) is same = clash (sym is)
+      now (event.Call d store q Seen (reply.NotAll place there) a) is same = clash (sym is)
       now (event.Call d store q Lost r a) is same = clash (sym is)
       now (event.Call d store q Discarded r a) is same = clash (sym is)
       now (event.Call d store q Delayed r a) is same = clash (sym is)
@@ -238,14 +282,14 @@ module _ (id : TxId) where
 ---- the law
 
 module _ (events : List Event) (own : PreparesAreOwn events) (belong : CallsAreOfStatements events) (seen : AnsweredWereSeen events) (client : ℕ) (s : Executed) (id : TxId) (m : StoreCall) (d : Decides events client s id m) (among : Contains (statements_by client events) s)
-    (keys : List Key) (h : PreparesAll keys id (calls_of events client s)) where
+    (groups : List (List Key)) (h : PreparesAll groups id (calls_of events client s)) where
   abbrev calls : List StoreCall
   calls = calls_of events client s
 
   -- each prepare of the COMMIT
   prepared : (p : StoreCall) → Contains calls p → prepares id p.request ≡ true → IsPrepare id p × (p.at < m.at)
   prepared p has is =
-      let x = applied_before keys id calls m p h (h.decided m d.call d.puts) has is in
+      let x = applied_before groups id calls m p h (h.decided m d.call d.puts) has is in
       let r = applied p.reply x.0 in
       ((is, seen client s p among has (ap is_answered r), r), low p.at m.at x.1)
     where
@@ -256,6 +300,7 @@ module _ (events : List Event) (own : PreparesAreOwn events) (belong : CallsAreO
       applied (reply.NotMet found) e = clash (sym e)
       applied (reply.Found found) e = clash (sym e)
       applied (reply.Rows rows) e = clash (sym e)
+      applied (reply.NotAll place there) e = clash (sym e)
 
       low : (a b : ℕ) → nat_lt a b ≡ true → a < b
       low a b e = grind (arith, nat_tests)
@@ -273,8 +318,8 @@ module _ (events : List Event) (own : PreparesAreOwn events) (belong : CallsAreO
   last_own : (n : ℕ) → LastCall id 1 events n → n < m.at
   last_own n x =
       let of = belong x.c x.p x.among in
-      let key = prepare_key id x.p.request x.is in
-      let mine = own x.c of.statement x.p id key.0 (record { among = of.among; call = of.call; fits = d.fits; is = x.is; puts = key.1 }) in
+      let put = prepare_puts id x.p.request x.is in
+      let mine = own x.c of.statement x.p id put.0 (record { among = of.among; call = of.call; fits = d.fits; is = x.is; puts = put.1 }) in
       let same_s : of.statement ≡ s = some_is of.statement s (sym mine.commit.1 ∙ d.commit.1) in
       let same_c : x.c ≡ client = sym mine.commit.0 ∙ d.commit.0 in
       let has : Contains calls x.p = subst (λ (t : Executed). Contains (calls_of events client t) x.p) same_s (subst (λ (c : ℕ). Contains (calls_of events c of.statement) x.p) same_c of.call) in

@@ -1,14 +1,16 @@
 -- All calls of clients show one decision on a transaction, where its row stays in the stores.
-use Rattle.std.proofs.Common.{◌≡◌, ◌⊎◌, inl, inr, ℕ, suc, ◌<◌, ◌≤◌, ◌^◌, Bool, true, false, List, length, Option, Some, None, refl, sym, ap, subst, ◌∙◌, arith}
-use Rattle.std.specs.Prelude.{if◌then◌else◌, Contains}
+use Rattle.std.proofs.Common.{◌≡◌, ◌⊎◌, inl, inr, ℕ, suc, ◌<◌, ◌≤◌, ◌^◌, Bool, true, false, List, [], ◌∷◌, length, Option, Some, None, refl, sym, ap, subst, ◌∙◌, arith}
+use Rattle.std.specs.FinMap.{insert}
+use Rattle.std.specs.Prelude.{if◌then◌else◌, is_none, Contains}
 use Rattle.std.specs.Option.{option_and_then, option_map_or}
 use Rattle.std.specs.Ordering.{is_eq}
 use Rattle.std.specs.Result.{result_ok}
 use Rattle.std.proofs.lemmas.Bool.{cases_lt}
-use Rattle.law_runs.specs.Types.{Decided, Event, Key, Place, Record, Reply, Request, TxId}
+use Rattle.law_runs.specs.Types.{Condition, Decided, Event, Key, Place, Record, Reply, Request, TxId}
+use Rattle.sdb_types.specs.declared.record.Put.{Put}
 use Rattle.sdb_types.specs.declared.record.Request.TheVariants as ask
 use Rattle.sdb_types.specs.declared.record.Reply.TheVariants as reply
-use Rattle.sdb_types.specs.Contents.{Contents, after, holds, put_reply, record_at, reply_to}
+use Rattle.sdb_types.specs.Contents.{Contents, after, batch_reply, holds, put_reply, record_at, reply_to}
 use Rattle.sdb_types.specs.Exact.{equal_of}
 use Rattle.sdb_types.specs.Order.{key_cmp}
 use Rattle.sdb_types.proofs.Public.{clash, key_exact, none_some, same_key_self, some_is}
@@ -32,11 +34,9 @@ of_found : (o : Option Record) (d : Decided) → option_and_then (λ (row : Reco
 of_found None d h = none_some d h
 of_found (Some row) d h = record { row = row; agrees = refl; decided = h }
 
--- what a reply of a store shows of a decision is what then is at the key that was asked
-said_stands : (q : Request) (k : Key) (m : Contents) (d : Decided) → key_asked q ≡ Some k → decision_in_reply q (reply_to q m) ≡ Some d → Stands (record_at (after q m) k) d
-said_stands (ask.Get key) k m d asked h = subst (λ (x : Key). Stands (record_at m x) d) (some_is key k asked) (of_found (record_at m key) d h)
-said_stands (ask.Scan span) k m d asked h = none_some k asked
-said_stands (ask.PutIf rec c) k m d asked h = subst (λ (x : Key). Stands (record_at (after (ask.PutIf rec c) m) x) d) (some_is rec.key k asked) (by (holds c (record_at m rec.key)) refl h)
+-- the decision that a reply to a put shows is in the row that then is at its key
+put_stands : (rec : Record) (c : Condition) (m : Contents) (d : Decided) → decision_in_reply (ask.PutIf rec c) (reply_to (ask.PutIf rec c) m) ≡ Some d → Stands (record_at (after (ask.PutIf rec c) m) rec.key) d
+put_stands rec c m d h = by (holds c (record_at m rec.key)) refl h
   where
     left : (b : Bool) → holds c (record_at m rec.key) ≡ b → record_at (after (ask.PutIf rec c) m) rec.key ≡ (if b then Some rec else record_at m rec.key)
     left true e = after_put rec c m rec.key ∙ rw e (rw (same_key_self rec.key) refl)
@@ -47,6 +47,27 @@ said_stands (ask.PutIf rec c) k m d asked h = subst (λ (x : Key). Stands (recor
     by false e executed =
         subst (λ (o : Option Record). Stands o d) (sym (left false e))
         (of_found (record_at m rec.key) d (sym (ap (λ (b : Bool). decision_in_reply (ask.PutIf rec c) (if b then reply.Applied else reply.NotMet (record_at m rec.key))) e) ∙ executed))
+
+-- a batch of one put leaves what that put leaves, and its reply shows the same decision
+one_left : (p : Put) (m : Contents) → after (ask.PutIf p.rec p.condition) m ≡ after (ask.PutAll (p ∷ [])) m
+one_left p m = by (holds p.condition (record_at m p.rec.key))
+  where
+    by : (b : Bool) → (if b then insert m p.rec.key p.rec.columns else m) ≡ (if is_none {T = ℕ × Option Record} (if b then None else Some (1, record_at m p.rec.key)) then insert m p.rec.key p.rec.columns else m)
+    by true = refl
+    by false = refl
+
+one_says : (p : Put) (m : Contents) → decision_in_reply (ask.PutIf p.rec p.condition) (reply_to (ask.PutIf p.rec p.condition) m) ≡ decision_in_reply (ask.PutAll (p ∷ [])) (reply_to (ask.PutAll (p ∷ [])) m)
+one_says p m = by (holds p.condition (record_at m p.rec.key))
+  where
+    by : (b : Bool) → decision_in_reply (ask.PutIf p.rec p.condition) (if b then reply.Applied else reply.NotMet (record_at m p.rec.key)) ≡ decision_in_reply (ask.PutAll (p ∷ [])) (batch_reply (if b then None else Some (1, record_at m p.rec.key)))
+    by true = refl
+    by false = refl
+
+-- what a reply of a store shows of a decision is what then is at the key that was asked
+said_stands : (q : Request) (k : Key) (m : Contents) (d : Decided) → key_asked q ≡ Some k → decision_in_reply q (reply_to q m) ≡ Some d → Stands (record_at (after q m) k) d
+said_stands (ask.Get key) k m d asked h = subst (λ (x : Key). Stands (record_at m x) d) (some_is key k asked) (of_found (record_at m key) d h)
+said_stands (ask.Scan span) k m d asked h = none_some k asked
+said_stands (ask.PutIf rec c) k m d asked h = subst (λ (x : Key). Stands (record_at (after (ask.PutIf rec c) m) x) d) (some_is rec.key k asked) (put_stands rec c m d h)
 said_stands (ask.DeleteIf key c) k m d asked h = subst (λ (x : Key). Stands (record_at (after (ask.DeleteIf key c) m) x) d) (some_is key k asked) (by (holds c (record_at m key)) refl h)
   where
     left : holds c (record_at m key) ≡ false → record_at (after (ask.DeleteIf key c) m) key ≡ record_at m key
@@ -57,6 +78,11 @@ said_stands (ask.DeleteIf key c) k m d asked h = subst (λ (x : Key). Stands (re
     by false e executed =
         subst (λ (o : Option Record). Stands o d) (sym (left e))
         (of_found (record_at m key) d (sym (ap (λ (b : Bool). decision_in_reply (ask.DeleteIf key c) (if b then reply.Applied else reply.NotMet (record_at m key))) e) ∙ executed))
+said_stands (ask.PutAll []) k m d asked h = none_some k asked
+said_stands (ask.PutAll (p ∷ [])) k m d asked h =
+    subst (λ (x : Key). Stands (record_at (after (ask.PutAll (p ∷ [])) m) x) d) (some_is p.rec.key k asked)
+    (subst (λ (n : Contents). Stands (record_at n p.rec.key) d) (one_left p m) (put_stands p.rec p.condition m d (one_says p m ∙ h)))
+said_stands (ask.PutAll (p ∷ q ∷ ps)) k m d asked h = none_some k asked
 
 -- a fault shows none, nor does out of memory
 fault_says : (q : Request) (r : Reply) (d : Decided) → (r ≡ reply.NoMemory) ⊎ (r ≡ reply.Fault) → decision_in_reply q r ≡ Some d → ⊥
@@ -67,6 +93,7 @@ fault_says q r d (inl e) h = no q (sym (ap (decision_in_reply q) e) ∙ h)
     no (ask.Scan span) h = none_some d h
     no (ask.PutIf rec c) h = none_some d h
     no (ask.DeleteIf key c) h = none_some d h
+    no (ask.PutAll batch) h = none_some d h
 fault_says q r d (inr e) h = no q (sym (ap (decision_in_reply q) e) ∙ h)
   where
     no : (q : Request) → decision_in_reply q reply.Fault ≡ Some d → ⊥
@@ -74,12 +101,16 @@ fault_says q r d (inr e) h = no q (sym (ap (decision_in_reply q) e) ∙ h)
     no (ask.Scan span) h = none_some d h
     no (ask.PutIf rec c) h = none_some d h
     no (ask.DeleteIf key c) h = none_some d h
+    no (ask.PutAll batch) h = none_some d h
 
 key_table : (q : Request) (k : Key) → key_asked q ≡ Some k → k.table.ns ≡ (table_asked q).ns
 key_table (ask.Get key) k e = ap (λ (x : Key). x.table.ns) (sym (some_is key k e))
 key_table (ask.Scan span) k e = none_some k e
 key_table (ask.PutIf rec c) k e = ap (λ (x : Key). x.table.ns) (sym (some_is rec.key k e))
 key_table (ask.DeleteIf key c) k e = ap (λ (x : Key). x.table.ns) (sym (some_is key k e))
+key_table (ask.PutAll []) k e = none_some k e
+key_table (ask.PutAll (p ∷ [])) k e = ap (λ (x : Key). x.table.ns) (sym (some_is p.rec.key k e))
+key_table (ask.PutAll (p ∷ q ∷ ps)) k e = none_some k e
 
 -- after a call that showed a decision the row is there with it
 call_stands : (places : List Place) (q : Request) (r : Reply) (before now : List StoreContents) (k : Key) (d : Decided) → AtCall places q r before now → key_asked q ≡ Some k → decision_in_reply q r ≡ Some d → Stands (stored_at places now k) d

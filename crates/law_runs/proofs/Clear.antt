@@ -49,12 +49,14 @@ RequestClear (ask.Get key) = KeyClear key
 RequestClear (ask.Scan span) = IfSome span.partition AreClear
 RequestClear (ask.PutIf r condition) = RecordClear r
 RequestClear (ask.DeleteIf key condition) = KeyClear key
+RequestClear (ask.PutAll b) = AllByRecursion (λ p. RecordClear p.rec) b
 
 abbrev pub ReplyClear : Reply → Type 0
 ReplyClear (reply.Found found) = FoundClear found
 ReplyClear (reply.Rows rows) = RecordsClear rows
 ReplyClear reply.Applied = Unit {0}
 ReplyClear (reply.NotMet found) = FoundClear found
+ReplyClear (reply.NotAll place found) = FoundClear found
 ReplyClear reply.Fault = Unit {0}
 ReplyClear reply.NoMemory = Unit {0}
 

@@ -12,7 +12,7 @@ use Rattle.sdb_phases.specs.declared.step.ValidateStep.TheVariants as validate
 use Rattle.sdb_phases.specs.Checks.{checks}
 use Rattle.sdb_phases.specs.Commit.{Stage, Preparing, Checking, Deciding, Forward, Stopping, Back, Over, after_abort, after_check, back, checking, out_of_memory, out_of_memory_answer, pending, preparing, step}
 use Rattle.sdb_phases.specs.Steps.{CanGet}
-use Rattle.sdb_phases.specs.Work.{Work}
+use Rattle.sdb_phases.specs.Work.{Work, groups_of}
 use Rattle.sdb_validate.specs.Inside.{Judges}
 use Rattle.sdb_txn.specs.Phases.{IsNext, ended_at}
 use Rattle.sdb_txn.specs.Txn.{progress_of}
@@ -67,6 +67,7 @@ abort_short a n (reply.NotMet found) = back_short a n 0
 abort_short a n reply.Fault = refl
 abort_short a n (reply.Found found) = refl
 abort_short a n (reply.Rows rows) = refl
+abort_short a n (reply.NotAll place there) = refl
 abort_short a n reply.NoMemory = refl
 
 step_short : (p : Work) (t : Stage) (r : Reply) → IsAs (step p t r) (step p (out_of_memory t) r)
@@ -180,7 +181,7 @@ pub record MakesAs (p : Work) (calls : List Call) (s : Stage) : Type 0 where
 
 -- before its first call
 pub makes_first : (p : Work) → MakesAs p [] (preparing p 0)
-makes_first p = record { stage = preparing p 0; makes = made_none p; agrees = inl refl; goes_on = by (nat_lt 0 (length p.writes)) }
+makes_first p = record { stage = preparing p 0; makes = made_none p; agrees = inl refl; goes_on = by (nat_lt 0 (groups_of p)) }
   where
     checks_first : (b : Bool) → is_over (if b then Checking 0 else Deciding phase.Put) ≡ false
     checks_first true = refl

@@ -1,20 +1,23 @@
 -- A COMMIT asks for nothing with an LF and answers with none, where nothing that it read, wrote and found has one.
 use Rattle.std.proofs.Common.{◌≡◌, ℕ, ℤ, ◌+◌, Bool, true, false, cond, List, [], ◌∷◌, map, filter, length, slice_get, Option, Some, None, IfSome, sym, ap, subst, ◌∙◌}
-use Rattle.std.specs.Prelude.{not, nat_lt}
+use Rattle.std.specs.Prelude.{◌-◌, IsSomeAnd, not, nat_lt}
 use Rattle.std.specs.List.{AllByRecursion}
-use Rattle.std.specs.Option.{option_map}
+use Rattle.std.specs.Option.{option_map, option_map_or}
 use Rattle.std.specs.Ordering.{is_lt}
 use Rattle.std.specs.FinMap.{empty, entries, get, get-empty, get-insert, insert}
-use Rattle.sdb_types.specs.Contents.{CanAnswer, in_span, record_among}
+use Rattle.sdb_types.specs.Contents.{CanAnswer, IsUnmet, IsUnmetAt, in_span, put_at, record_among, sent}
 use Rattle.sdb_types.specs.Order.{key_cmp, same_key}
 use Rattle.law_runs.specs.Types.{Check, DecidePhase, DecideStep, Expected, Key, Outcome, PrepareStep, Read, Record, Reply, Request, Scan, Span, Target, TxId, ValidateStep, Wanted, Write}
+use Rattle.sdb_types.specs.declared.record.Put.{Put}
 use Rattle.sdb_types.specs.declared.record.Reply.TheVariants as reply
 use Rattle.sdb_types.specs.declared.record.Request.TheVariants as ask
 use Rattle.sdb_types.proofs.Public.{append_all, by_test, key_exact, key_total, none_some, same_key_exact}
 use Rattle.sdb_record.specs.declared.coordinator.Decision.TheVariants as decision
 use Rattle.sdb_record.specs.Among.{is_written}
+use Rattle.sdb_record.specs.Groups.{grouped, in_groups}
 use Rattle.sdb_record.specs.Moved.{is_unchanged, version_of}
 use Rattle.sdb_record.specs.Rolls.{prepared_record}
+use Rattle.sdb_record.proofs.Public.{grouped_all}
 use Rattle.sdb_phases.specs.declared.check.Target.TheVariants as target
 use Rattle.sdb_phases.specs.declared.check.Expected.TheVariants as wish
 use Rattle.sdb_phases.specs.declared.step.DecidePhase.TheVariants as phase
@@ -26,8 +29,9 @@ use Rattle.sdb_phases.specs.Checks.{Wishes, changed, check_of_read, check_of_sca
 use Rattle.sdb_phases.specs.Commit.{Back, Checking, Deciding, Forward, Over, Preparing, Stage, Stopping, after_abort, after_check, after_decide, after_prepare, back, checking, forward, pending, preparing, step}
 use Rattle.sdb_phases.specs.Steps.{decide_next, decide_request_at, judged, prepare_step, refused, touched_after, validate_step}
 use Rattle.sdb_phases.proofs.Public.{by_steps}
-use Rattle.sdb_phases.specs.Work.{Work, back_of, backs, forward_of, forwards, prepare_of, prepares, is_as_prepared}
+use Rattle.sdb_phases.specs.Work.{Work, back_of, backs, forward_of, forwards, groups_of, prepare_of, prepares, is_as_prepared, writes_before}
 use Rattle.sdb_txn.specs.Phases.{IsNext}
+use Rattle.law_answers.proofs.Public.{all_in_groups}
 use Rattle.sdb_validate.specs.Inside.{Judges}
 use Rattle.law_runs.proofs.Lists.{at_all, filter_all, map_all, option_so}
 use Rattle.law_runs.proofs.Clear.{FoundClear, KeyClear, RecordClear, RecordsClear, ReplyClear, RequestClear, WriteClear, forward_clear, prepared_clear, row_clear, row_key_clear, undo_clear}
@@ -76,10 +80,23 @@ among_at (r ∷ rs) key h =
 
 ---- what it asks for
 
-prepare_asks : (id : TxId) (now : ℤ) (w : Write) → WriteClear w → RequestClear (prepare_of id now w)
+abbrev PutClear : Put → Type 0
+PutClear u = RecordClear u.rec
+
+sent_clear : (b : List Put) → AllByRecursion PutClear b → RequestClear (sent b)
+sent_clear [] h = tt
+sent_clear (u ∷ []) h = h.0
+sent_clear (u ∷ v ∷ us) h = h
+
+-- the call for each group
+groups_ask : (f : Write → Put) → ((w : Write) → WriteClear w → PutClear (f w)) → (ws : List Write) → WritesClear ws → AllByRecursion RequestClear (map (λ g. sent (map f g)) (grouped ws))
+groups_ask f clear ws h =
+    map_all (AllByRecursion WriteClear) RequestClear (λ g. sent (map f g)) (grouped ws) (λ g k. sent_clear (map f g) (map_all WriteClear PutClear f g clear k)) (grouped_all WriteClear ws h)
+
+prepare_asks : (id : TxId) (now : ℤ) (w : Write) → WriteClear w → PutClear (prepare_of id now w)
 prepare_asks id now w h = prepared_clear w id now h
 
-forward_asks : (id : TxId) (now : ℤ) (w : Write) → WriteClear w → RequestClear (forward_of id now w)
+forward_asks : (id : TxId) (now : ℤ) (w : Write) → WriteClear w → PutClear (forward_of id now w)
 forward_asks id now w h = forward_clear (prepared_record w id now) now (prepared_clear w id now h)
 
 back_asks : (id : TxId) (w : Write) → WriteClear w → RequestClear (back_of id w)
@@ -141,16 +158,16 @@ decide_asks p phase.Again = row_key_clear p.id
 decide_asks p phase.Ended = tt
 
 prepares_ask : (p : Work) → WorkClear p → AllByRecursion RequestClear (prepares p)
-prepares_ask p h = map_all WriteClear RequestClear (prepare_of p.id p.now) p.writes (prepare_asks p.id p.now) h.writes
+prepares_ask p h = groups_ask (prepare_of p.id p.now) (prepare_asks p.id p.now) p.writes h.writes
 
 -- the call that a COMMIT has pending
 pub commit_asks : (p : Work) (s : Stage) → WorkClear p → IfSome (pending p s) RequestClear
 commit_asks p (Preparing i) h = at_all RequestClear (prepares p) i (prepares_ask p h)
 commit_asks p (Checking i) h = option_so CheckClear RequestClear (λ (c : Check). c.request) (slice_get (checks p) i) (λ c k. k.asks) (at_all CheckClear (checks p) i (checks_clear p h))
 commit_asks p (Deciding d) h = decide_asks p d
-commit_asks p (Forward i) h = at_all RequestClear (forwards p) i (map_all WriteClear RequestClear (forward_of p.id p.now) p.writes (forward_asks p.id p.now) h.writes)
+commit_asks p (Forward i) h = at_all RequestClear (forwards p) i (groups_ask (forward_of p.id p.now) (forward_asks p.id p.now) p.writes h.writes)
 commit_asks p (Stopping a n) h = row_clear p.id decision.Aborted p.now
-commit_asks p (Back a n i) h = at_all RequestClear (backs p) i (map_all WriteClear RequestClear (back_of p.id) p.writes (back_asks p.id) h.writes)
+commit_asks p (Back a n i) h = at_all RequestClear (backs p) i (map_all WriteClear RequestClear (back_of p.id) (in_groups p.writes) (back_asks p.id) (all_in_groups WriteClear p.writes h.writes))
 commit_asks p (Over a) h = tt
 
 ---- a prepare
@@ -162,18 +179,36 @@ PrepareClear (prepare.Conflict key found) = ConflictClear key found
 PrepareClear prepare.Faulted = Unit {0}
 PrepareClear prepare.NoMemory = Unit {0}
 
-refused_clear : (o : Option Request) (found : Option Record) → IfSome o RequestClear → IfSome o (λ q. CanAnswer q (reply.NotMet found)) → FoundClear found → PrepareClear (refused o found)
+refused_clear : (o : Option Request) (found : Option Record) → IfSome o RequestClear → IfSome o (λ q. CanAnswer q (reply.NotMet found)) → FoundClear found → PrepareClear (refused o 1 found)
 refused_clear None found h can k = tt
 refused_clear (Some (ask.Get key)) found h can k = tt
 refused_clear (Some (ask.Scan span)) found h can k = tt
 refused_clear (Some (ask.PutIf rec c)) found h can k = (h.key, found_at rec.key found k can.0)
 refused_clear (Some (ask.DeleteIf key c)) found h can k = tt
+refused_clear (Some (ask.PutAll batch)) found h can k = absurd can
+
+-- and where a put of a group was not met
+put_refused : (batch : List Put) (place : ℕ) (found : Option Record) → AllByRecursion PutClear batch → IsUnmetAt batch place found → FoundClear found → PrepareClear (refused (Some (ask.PutAll batch)) place found)
+put_refused batch place found h can k = by (put_at batch place) (at_all PutClear batch (place - 1) h) can.1
+  where
+    by : (o : Option Put) → IfSome o PutClear → IsSomeAnd o (λ u. IsUnmet u.condition u.rec.key found) → PrepareClear (option_map_or (λ (u : Put). prepare.Conflict u.rec.key found) o prepare.NoMemory)
+    by None c unmet = tt
+    by (Some u) c unmet = (c.key, found_at u.rec.key found k unmet.0)
+
+all_refused : (o : Option Request) (place : ℕ) (found : Option Record) → IfSome o RequestClear → IfSome o (λ q. CanAnswer q (reply.NotAll place found)) → FoundClear found → PrepareClear (refused o place found)
+all_refused None place found h can k = tt
+all_refused (Some (ask.Get key)) place found h can k = tt
+all_refused (Some (ask.Scan span)) place found h can k = tt
+all_refused (Some (ask.PutIf rec c)) place found h can k = absurd can
+all_refused (Some (ask.DeleteIf key c)) place found h can k = tt
+all_refused (Some (ask.PutAll batch)) place found h can k = put_refused batch place found h can k
 
 prepare_clear : (more : Bool) (o : Option Request) (r : Reply) → IfSome o RequestClear → IfSome o (λ q. CanAnswer q r) → ReplyClear r → PrepareClear (prepare_step more o r)
 prepare_clear more o reply.Applied h can k = elim more as (λ b. PrepareClear (cond b prepare.More prepare.Done)) [ true ↦ tt | false ↦ tt ]
 prepare_clear more o (reply.NotMet found) h can k = refused_clear o found h can k
 prepare_clear more o (reply.Found found) h can k = tt
 prepare_clear more o (reply.Rows rows) h can k = tt
+prepare_clear more o (reply.NotAll place there) h can k = all_refused o place there h can k
 prepare_clear more o reply.Fault h can k = tt
 prepare_clear more o reply.NoMemory h can k = tt
 
@@ -181,7 +216,7 @@ checking_clear : (p : Work) (i : ℕ) → CommitClear (checking p i)
 checking_clear p i = elim (nat_lt i (length (checks p))) as (λ b. CommitClear (cond b (Checking i) (Deciding phase.Put))) [ true ↦ tt | false ↦ tt ]
 
 pub preparing_clear : (p : Work) (i : ℕ) → CommitClear (preparing p i)
-preparing_clear p i = by (nat_lt i (length p.writes))
+preparing_clear p i = by (nat_lt i (groups_of p))
   where
     by : (b : Bool) → CommitClear (cond b (Preparing i) (checking p 0))
     by true = tt
@@ -231,6 +266,7 @@ difference_clear (ask.Get key) (target.Version version) (reply.Found found) h g 
 difference_clear (ask.Get key) (target.Version version) (reply.Rows rows) h g can k = tt
 difference_clear (ask.Get key) (target.Version version) reply.Applied h g can k = tt
 difference_clear (ask.Get key) (target.Version version) (reply.NotMet found) h g can k = tt
+difference_clear (ask.Get key) (target.Version version) (reply.NotAll place there) h g can k = tt
 difference_clear (ask.Get key) (target.Version version) reply.Fault h g can k = tt
 difference_clear (ask.Get key) (target.Version version) reply.NoMemory h g can k = tt
 difference_clear (ask.Get key) (target.Rows ws) r h g can k = tt
@@ -239,10 +275,12 @@ difference_clear (ask.Scan span) (target.Rows ws) (reply.Found found) h g can k 
 difference_clear (ask.Scan span) (target.Rows ws) (reply.Rows rows) h g can k = first_clear ws rows g k
 difference_clear (ask.Scan span) (target.Rows ws) reply.Applied h g can k = tt
 difference_clear (ask.Scan span) (target.Rows ws) (reply.NotMet found) h g can k = tt
+difference_clear (ask.Scan span) (target.Rows ws) (reply.NotAll place there) h g can k = tt
 difference_clear (ask.Scan span) (target.Rows ws) reply.Fault h g can k = tt
 difference_clear (ask.Scan span) (target.Rows ws) reply.NoMemory h g can k = tt
 difference_clear (ask.PutIf rec c) t r h g can k = tt
 difference_clear (ask.DeleteIf key c) t r h g can k = tt
+difference_clear (ask.PutAll batch) t r h g can k = tt
 
 judged_clear : (more : Bool) (d : Option (Key × Option Record)) → DifferenceClear d → ValidateClear (judged more d)
 judged_clear more None h = elim more as (λ b. ValidateClear (cond b validate.More validate.Valid)) [ true ↦ tt | false ↦ tt ]
@@ -253,10 +291,12 @@ validate_clear more o reply.Fault h can k = tt
 validate_clear more o reply.NoMemory h can k = tt
 validate_clear more None (reply.Found found) h can k = tt
 validate_clear more None (reply.Rows rows) h can k = tt
+validate_clear more None (reply.NotAll place there) h can k = tt
 validate_clear more None reply.Applied h can k = tt
 validate_clear more None (reply.NotMet found) h can k = tt
 validate_clear more (Some c) (reply.Found found) h can k = judged_clear more _ (difference_clear c.request c.target (reply.Found found) h.asks h.target can k)
 validate_clear more (Some c) (reply.Rows rows) h can k = judged_clear more _ (difference_clear c.request c.target (reply.Rows rows) h.asks h.target can k)
+validate_clear more (Some c) (reply.NotAll place there) h can k = judged_clear more _ (difference_clear c.request c.target (reply.NotAll place there) h.asks h.target can k)
 validate_clear more (Some c) reply.Applied h can k = judged_clear more _ (difference_clear c.request c.target reply.Applied h.asks h.target can k)
 validate_clear more (Some c) (reply.NotMet found) h can k = judged_clear more _ (difference_clear c.request c.target (reply.NotMet found) h.asks h.target can k)
 
@@ -294,7 +334,7 @@ decide_clear id =
     })
 
 forward_stage : (p : Work) (i : ℕ) → CommitClear (forward p i)
-forward_stage p i = elim (nat_lt i (length p.writes)) as (λ b. CommitClear (cond b (Forward i) (Over outcome.Committed))) [ true ↦ tt | false ↦ tt ]
+forward_stage p i = elim (nat_lt i (groups_of p)) as (λ b. CommitClear (cond b (Forward i) (Over outcome.Committed))) [ true ↦ tt | false ↦ tt ]
 
 back_stage : (a : Outcome) (n i : ℕ) → OutcomeClear a → CommitClear (back a n i)
 back_stage a n i h = elim (nat_lt i n) as (λ b. CommitClear (cond b (Back a n i) (Over a))) [ true ↦ h | false ↦ h ]
@@ -313,6 +353,7 @@ abort_stage a n reply.Applied h = back_stage a n 0 h
 abort_stage a n (reply.NotMet found) h = back_stage a n 0 h
 abort_stage a n (reply.Found found) h = h
 abort_stage a n (reply.Rows rows) h = h
+abort_stage a n (reply.NotAll place there) h = h
 abort_stage a n reply.Fault h = h
 abort_stage a n reply.NoMemory h = h
 
@@ -333,7 +374,7 @@ check_next p i r h can k =
 -- where a reply leads a COMMIT
 pub commit_step_clear : (p : Work) (s : Stage) (r : Reply) → WorkClear p → CommitClear s → CanGet p s r → ReplyClear r → CommitClear (step p s r)
 commit_step_clear p (Preparing i) r h g can k =
-    prepared_stage p i (touched_after i r) _ (prepare_clear (nat_lt (i + 1) (length p.writes)) (slice_get (prepares p) i) r (at_all RequestClear (prepares p) i (prepares_ask p h)) can k)
+    prepared_stage p i (touched_after (slice_get (prepares p) i) (writes_before p i) r) _ (prepare_clear (nat_lt (i + 1) (groups_of p)) (slice_get (prepares p) i) r (at_all RequestClear (prepares p) i (prepares_ask p h)) can k)
 commit_step_clear p (Checking i) r h g can k = checked_stage p i _ (check_next p i r h can k)
 commit_step_clear p (Deciding d) r h g can k = decided_stage p (decide_next p.id d r).0 (decide_next p.id d r).1 (decide_clear p.id d r)
 commit_step_clear p (Forward i) r h g can k = forward_stage p (i + 1)

@@ -1,29 +1,36 @@
 -- Which answers are left to statements whose calls were served.
-use Rattle.std.proofs.Common.{◌≡◌, ◌⊎◌, inl, inr, ℕ, Bool, true, false, List, [], ◌∷◌, Option, Some, None, Ok, refl, sym, ap, subst, ◌∙◌}
+use Rattle.std.proofs.Common.{◌≡◌, ◌⊎◌, inl, inr, ℕ, ℤ, ◌<◌, ◌^◌, Bool, true, false, List, [], ◌∷◌, Option, Some, None, Ok, refl, sym, ap, subst, ◌∙◌}
 use Rattle.std.specs.Prelude.{◌&&◌, Contains, if◌then◌else◌, is_some, nat_le, nat_lt}
-use Rattle.std.specs.Option.{option_and_then, option_map_or}
+use Rattle.std.specs.Option.{option_and_then, option_map, option_map_or}
 use Rattle.std.specs.Result.{result_ok}
 use Rattle.std.proofs.lemmas.List.Elements.{Contains-append_left, Contains-append_right, Contains-push}
+use Rattle.std.specs.Cmp.{tied_itself}
+use Rattle.std.specs.Ordering.{is_eq}
 use Rattle.law_runs.specs.Types.{Answer, Decided, Decision, Event, Key, Record, Reply, Request, Script, Statement, Table, TxId}
+use Rattle.sdb_types.specs.declared.record.Put.{Put}
 use Rattle.sdb_types.specs.declared.record.Reply.TheVariants as reply
 use Rattle.sdb_types.specs.declared.record.Request.TheVariants as ask
 use Rattle.sdb_types.specs.Columns.{column}
-use Rattle.sdb_types.specs.Contents.{tx_id, tx_state}
+use Rattle.sdb_types.specs.Contents.{put_at, tx_id, tx_state}
+use Rattle.sdb_types.specs.Order.{key_cmp}
 use Rattle.sdb_types.specs.Replies.{is_applied, is_fault}
-use Rattle.sdb_types.proofs.Public.{clash, none_some, some_is}
+use Rattle.sdb_types.proofs.Public.{clash, key_total, none_some, some_is}
 use Rattle.sdb_record.specs.declared.coordinator.Decision.TheVariants as decision
-use Rattle.sdb_record.specs.Coordinator.{decision_in, decision_in_value, id_in_values, id_of_key, if_empty, is_coordinator_table}
+use Rattle.sdb_record.specs.Coordinator.{coordinator_key_of, coordinator_row_of, decision_in, decision_in_value, id_in_values, id_of_key, if_empty, is_coordinator_table}
+use Rattle.sdb_record.proofs.Public.{need-ok}
 use Rattle.sdb_record.specs.Meta.{moment_in, need}
 use Rattle.sdb_record.specs.Names.{tx_created_at}
 use Rattle.sdb_model.specs.declared.answer.Answer.TheVariants as answer
 use Rattle.sdb_model.specs.declared.statement.Statement.TheVariants as statement
-use Rattle.sdb_model.specs.Calls.{StoreCall, calls_by, calls_of, end_of, is_stored_reply, decision_found, decision_in_reply, decision_learned, decision_observed, is_of_row, put_by, record_at_key, records_observed}
+use Rattle.sdb_model.specs.Calls.{StoreCall, calls_by, calls_of, clock_at, end_of, is_read, is_stored_reply, decision_found, decision_in_reply, decision_learned, decision_observed, is_of_row, put_by, record_at_key, records_observed}
 use Rattle.sdb_model.specs.Causes.{AreCaused, IsBad, IsCaused, IsCommitOf, IsConflict, IsConflictAtCommit, IsCounted, IsDecided, IsRejected, MayPassMost, MeetsMisfit, PutsRow, before, is_select, may_pass}
 use Rattle.sdb_model.specs.Counted.{IsPassedOver, IsResolved, is_seen}
 use Rattle.sdb_model.specs.Catalogs.{catalog_after}
 use Rattle.sdb_model.specs.Exec.{named_table, table_of}
 use Rattle.sdb_model.specs.Follows.{Follows}
+use Rattle.sdb_model.specs.InFlight as in_flight
 use Rattle.sdb_model.specs.ReadSet.{read_finished, read_set_of}
+use Rattle.sdb_model.specs.Requests.{keys_asked, only_of, records_put}
 use Rattle.sdb_model.specs.Sql.{Reads, reads_begin, reads_commit, reads_rollback, reads_vacuum}
 use Rattle.sdb_model.specs.Transactions.{Executed, client_of, commit_in, ending_in, from_begin, ordinal_of, statements_by}
 use Rattle.sdb_sqltext.proofs.Public.{begin_read, commit_read, one_statement, rollback_read, vacuum_read}
@@ -33,11 +40,14 @@ use Rattle.law_answers.specs.Rolled.{AnsweredWereSeen, IsDealtWith, RolledBut}
 use Rattle.law_answers.specs.Commits.{ObservesBad, PutsOutOfMemory}
 use Rattle.law_answers.specs.Unfit.{AreStoredReplies}
 use Rattle.law_answers.proofs.Public.{all_resolved, answered_seen, each_in, each_kept, kept_in, seen_no_faults, observed_bad, observed_read}
+use Rattle.law_protocol.proofs.Public.{in_mapped, row_key_is}
+use Rattle.sdb_model.proofs.Public.{only_in}
 use Rattle.sdb_client.specs.Execution.{IsExecution, IsPlayable}
 use Rattle.law_runs.specs.Complete.{CommitEnds, IsUncontended, UncontendedCommitsComplete, HasCommitted, IsCoordinatorRow, IsOnTable, IsServed, ObserveNone, ReadsUnresolved, RecoveriesComplete, RecoveryEnds, ResolvedAreNotBusy, SeenAreServed, StatementEnds, StatementsComplete}
-use Rattle.law_runs.specs.Laws.{BusyIsOfReads}
+use Rattle.law_runs.specs.Laws.{BusyIsOfReads, GivesUp, IsOwnDecision, row_put}
 use Rattle.law_runs.proofs.Busy.{execution_busy}
 use Rattle.law_runs.proofs.Endings.{execution_ends}
+use Rattle.law_runs.proofs.GivesUp.{execution_due}
 use Rattle.law_runs.proofs.ReadsOnce.{execution_few}
 use Rattle.law_runs.proofs.Statements.{none_in}
 use Rattle.law_runs.proofs.Steps.{execution_caused, execution_holds}
@@ -69,10 +79,18 @@ found_at q r row e = by q r e
     unmet : (found : Option Record) → found ≡ Some row → Contains (records_observed (reply.NotMet found)) row
     unmet found k = subst (λ (o : Option Record). Contains (records_observed (reply.NotMet o)) row) (sym k) itself
 
+    unmet_at : (place : ℕ) (found : Option Record) → found ≡ Some row → Contains (records_observed (reply.NotAll place found)) row
+    unmet_at place found k = subst (λ (o : Option Record). Contains (records_observed (reply.NotAll place o)) row) (sym k) itself
+
+    at : (o : Option Put) (place : ℕ) (found : Option Record) → option_map (λ (s : Key × Option Record). s.1) (only_of (option_map_or (λ (p : Put). (p.rec.key, found) ∷ []) o [])) ≡ Some (Some row) → Contains (records_observed (reply.NotAll place found)) row
+    at None place found k = none_some (Some row) k
+    at (Some p) place found k = unmet_at place found (one found k)
+
     by : (x : Request) (y : Reply) → record_at_key x y ≡ Some (Some row) → Contains (records_observed y) row
     by (ask.Get key) (reply.Found found) k = got found (one found k)
     by (ask.Get key) (reply.NotMet found) k = none_some (Some row) k
     by (ask.Get key) (reply.Rows rows) k = none_some (Some row) k
+    by (ask.Get key) (reply.NotAll place there) k = none_some (Some row) k
     by (ask.Get key) reply.Applied k = none_some (Some row) k
     by (ask.Get key) reply.Fault k = none_some (Some row) k
     by (ask.Get key) reply.NoMemory k = none_some (Some row) k
@@ -80,15 +98,24 @@ found_at q r row e = by q r e
     by (ask.PutIf rec condition) (reply.NotMet found) k = unmet found (one found k)
     by (ask.PutIf rec condition) (reply.Found found) k = none_some (Some row) k
     by (ask.PutIf rec condition) (reply.Rows rows) k = none_some (Some row) k
+    by (ask.PutIf rec condition) (reply.NotAll place there) k = none_some (Some row) k
     by (ask.PutIf rec condition) reply.Applied k = none_some (Some row) k
     by (ask.PutIf rec condition) reply.Fault k = none_some (Some row) k
     by (ask.PutIf rec condition) reply.NoMemory k = none_some (Some row) k
     by (ask.DeleteIf key condition) (reply.NotMet found) k = unmet found (one found k)
     by (ask.DeleteIf key condition) (reply.Found found) k = none_some (Some row) k
     by (ask.DeleteIf key condition) (reply.Rows rows) k = none_some (Some row) k
+    by (ask.DeleteIf key condition) (reply.NotAll place there) k = none_some (Some row) k
     by (ask.DeleteIf key condition) reply.Applied k = none_some (Some row) k
     by (ask.DeleteIf key condition) reply.Fault k = none_some (Some row) k
     by (ask.DeleteIf key condition) reply.NoMemory k = none_some (Some row) k
+    by (ask.PutAll b) (reply.NotAll place found) k = at (put_at b place) place found k
+    by (ask.PutAll b) (reply.NotMet found) k = none_some (Some row) k
+    by (ask.PutAll b) (reply.Found found) k = none_some (Some row) k
+    by (ask.PutAll b) (reply.Rows rows) k = none_some (Some row) k
+    by (ask.PutAll b) reply.Applied k = none_some (Some row) k
+    by (ask.PutAll b) reply.Fault k = none_some (Some row) k
+    by (ask.PutAll b) reply.NoMemory k = none_some (Some row) k
 
 -- a call found a row of the coordinator
 abbrev FindsRow : StoreCall → Type 0
@@ -129,6 +156,7 @@ observed_by id w m h = by (is_of_row id m.request) refl h
     applied (reply.NotMet found) e = clash (sym e)
     applied (reply.Found found) e = clash (sym e)
     applied (reply.Rows rows) e = clash (sym e)
+    applied (reply.NotAll place there) e = clash (sym e)
     applied reply.Fault e = clash (sym e)
     applied reply.NoMemory e = clash (sym e)
 
@@ -144,6 +172,31 @@ observed_by id w m h = by (is_of_row id m.request) refl h
     by : (b : Bool) → is_of_row id m.request ≡ b → IsDecided w (if b then decision_in_reply m.request m.reply else None) → (PutsRow id w m × (m.reply ≡ reply.Applied)) ⊎ FindsRow m
     by true e k = observed (is_applied m.reply) refl e k
     by false e k = absurd k
+
+---- puts of rows
+
+-- a record that a request puts is at a key that it names, and the request is no read
+puts_at : (q : Request) (r : Record) → Contains (records_put q) r → Contains (keys_asked q) r.key × (is_read q ≡ false)
+puts_at (ask.Get key) r h = none_in r h
+puts_at (ask.Scan span) r h = none_in r h
+puts_at (ask.PutIf rec c) r h = (in_mapped (λ (x : Record). x.key) (records_put (ask.PutIf rec c)) r h, refl)
+puts_at (ask.DeleteIf key c) r h = none_in r h
+puts_at (ask.PutAll b) r h = (in_mapped (λ (x : Record). x.key) (records_put (ask.PutAll b)) r h, refl)
+
+-- a row that a decision is read from names its transaction
+row_names : (row : Record) (d : Decided) → decision_in row ≡ Ok d → (id : TxId) × (id.0 < 2 ^ 128) × (row.key ≡ coordinator_key_of id)
+unfolding decision_in
+row_names row d h = let n = need-ok (id_of_key row.key) tx_id _ d h in let k = row_key_is row.key n.0 n.1 in (n.0, k.0, k.1)
+
+-- what puts a row alone puts no other record
+alone_puts : (id u : TxId) (w d : Decision) (now : ℤ) (m : StoreCall) → m.request ≡ row_put u d now → in_flight.PutsRow id w m.request → PutsRow id w m
+alone_puts id u w d now m asks p = (
+  ap (is_of_row id) asks ∙ ap (λ (r : Record). is_eq (key_cmp r.key (coordinator_key_of id))) same ∙ ap (λ (k : Key). is_eq (key_cmp k (coordinator_key_of id))) p.key ∙ ap is_eq (tied_itself key_total (coordinator_key_of id)),
+  subst (IsDecided w) (sym (ap (option_and_then (λ (row : Record). result_ok (decision_in row))) (ap put_by asks ∙ ap Some same) ∙ ap result_ok p.well_formed)) p.same,
+)
+  where
+    same : coordinator_row_of u d now ≡ p.row
+    same = only_in (coordinator_row_of u d now) p.row (subst (λ (q : Request). Contains (records_put q) p.row) asks p.puts)
 
 ---- texts
 
@@ -210,11 +263,25 @@ module _ (script : Script) (events : List Event) (playable : IsPlayable script) 
           by (inr y) = (alone.unchanged id z.0).agreed key y.1
       moved key found (id, inr z) = clash (sym alone.commit ∙ z.1)
 
-      starved : a ≡ answer.NoMemory → (id : TxId) (m : StoreCall) → IsCommitOf events client s id → Contains calls m → PutsRow id decision.Committed m → ⊥
+      -- a call that puts a row among its records puts it alone
+      puts_alone : (id : TxId) (w : Decision) (m : StoreCall) → Contains calls m → in_flight.PutsRow id w m.request → PutsRow id w m
+      puts_alone id w m has p = by (execution_due script events playable x client s m names.0 h.among has names.1 (subst (Contains (keys_asked m.request)) names.2 at.0, at.1))
+        where
+          names : (u : TxId) × (u.0 < 2 ^ 128) × (p.row.key ≡ coordinator_key_of u)
+          names = row_names p.row p.decided p.well_formed
+
+          at : Contains (keys_asked m.request) p.row.key × (is_read m.request ≡ false)
+          at = puts_at m.request p.row p.puts
+
+          by : IsOwnDecision events client s names.0 m ⊎ GivesUp events calls m names.0 → PutsRow id w m
+          by (inl o) = alone_puts id names.0 w o.decision (clock_at events s.accepted) m o.asks p
+          by (inr g) = alone_puts id names.0 w decision.Aborted (clock_at events g.look.at) m g.asks p
+
+      starved : a ≡ answer.NoMemory → (id : TxId) (m : StoreCall) → IsCommitOf events client s id → Contains calls m → in_flight.PutsRow id decision.Committed m.request → ⊥
       starved e id m of has puts =
           let counted : CommitIsCounted (read_set_of events id) id s.answer (calls_of events (client_of id) s) = (execution_caused script events playable x).counted.commits id s of.1 in
           let none : PutsOutOfMemory id calls = subst (λ (c : ℕ). PutsOutOfMemory id (calls_of events c s)) of.0 (counted.starved (h.is ∙ ap Some e)) in
-          (h.served m has).1 (each_in (λ (y : StoreCall). PutsRow id decision.Committed y → y.reply ≡ reply.NoMemory) calls m none has puts)
+          (h.served m has).1 (each_in (λ (y : StoreCall). PutsRow id decision.Committed y → y.reply ≡ reply.NoMemory) calls m none has (puts_alone id decision.Committed m has puts))
 
       other : (st : Statement) → Reads s.text st → st ≡ statement.Commit
       other st reads = one_statement s.text st statement.Commit reads commits

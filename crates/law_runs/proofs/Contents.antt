@@ -1,19 +1,20 @@
 -- What a store holds and answers has no LF, where what it held and what it is asked for has none.
-use Rattle.std.proofs.Common.{◌≡◌, Bool, true, false, cond, List, [], ◌∷◌, map, filter, Option, Some, None, inl, inr, refl, sym, ap, subst, ◌∙◌}
-use Rattle.std.specs.Prelude.{◌&&◌}
+use Rattle.std.proofs.Common.{◌≡◌, ℕ, ◌+◌, Bool, true, false, cond, List, [], ◌∷◌, map, filter, Option, Some, None, inl, inr, refl, sym, ap, subst, ◌∙◌}
+use Rattle.std.specs.Prelude.{◌&&◌, if◌then◌else◌, is_none}
 use Rattle.std.specs.List.{AllByRecursion}
 use Rattle.std.specs.Option.{option_map}
 use Rattle.std.specs.Ordering.{eq_by_cmp, is_lt}
 use Rattle.std.specs.Cmp.{tied_itself}
-use Rattle.std.specs.FinMap.{FinMap, empty, entries, entries_sorted, find, get, get-empty, get-entries, is_sorted}
+use Rattle.std.specs.FinMap.{FinMap, empty, entries, entries_sorted, find, get, get-empty, get-entries, insert, is_sorted}
 use Rattle.std.specs.FinMap.Entries.{below_all}
-use Rattle.sdb_types.specs.Contents.{Contents, after, holds, in_span, put_reply, record_at, record_of, reply_to, rows_among}
+use Rattle.sdb_types.specs.declared.record.Put.{Put}
+use Rattle.sdb_types.specs.Contents.{Contents, after, all_put, batch_reply, holds, in_span, is_met_by, put_reply, record_at, record_of, reply_to, rows_among, unmet_from}
 use Rattle.sdb_types.specs.Order.{key_cmp, same_key}
 use Rattle.law_runs.specs.Types.{Condition, How, Key, Pair, Record, Reply, Request, Span}
 use Rattle.sdb_types.specs.declared.record.Reply.TheVariants as reply
 use Rattle.sdb_types.specs.declared.record.Request.TheVariants as ask
 use Rattle.sdb_types.specs.Exact.{equal_of}
-use Rattle.sdb_types.proofs.Public.{and_parts, by_test, key_exact, key_total, less_of, none_some, truth}
+use Rattle.sdb_types.proofs.Public.{and_parts, by_test, key_exact, key_total, less_of, none_some, record_at-insert, truth}
 use Rattle.sdb_model.specs.declared.event.How.TheVariants.{Broken, Delayed, Discarded, Lost, Seen}
 use Rattle.sdb_model.specs.Events.{IsPerformed}
 use Rattle.sdb_model.specs.Exec.{Tables, all_rows, row_of_entry}
@@ -88,11 +89,25 @@ at_clear m key h = by (record_at m key) refl
 put_reply_clear : (c : Condition) (found : Option Record) → FoundClear found → ReplyClear (put_reply c found)
 put_reply_clear c found h = elim (holds c found) as (λ b. ReplyClear (cond b reply.Applied (reply.NotMet found))) [ true ↦ tt | false ↦ h ]
 
+batch_reply_clear : (b : List Put) (n : ℕ) (m : Contents) → HeldClear m → ReplyClear (batch_reply (unmet_from n b m))
+batch_reply_clear [] n m h = tt
+batch_reply_clear (p ∷ ps) n m h =
+    elim (is_met_by m p) as (λ (x : Bool). ReplyClear (batch_reply (if x then unmet_from (n + 1) ps m else Some (n, record_at m p.rec.key)))) [ true ↦ batch_reply_clear ps (n + 1) m h | false ↦ at_clear m p.rec.key h ]
+
 reply_clear : (q : Request) (m : Contents) → HeldClear m → ReplyClear (reply_to q m)
 reply_clear (ask.Get key) m h = at_clear m key h
 reply_clear (ask.Scan span) m h = among_clear span (entries m) (rows_clear m (tables_held m h))
 reply_clear (ask.PutIf r c) m h = put_reply_clear c (record_at m r.key) (at_clear m r.key h)
 reply_clear (ask.DeleteIf key c) m h = put_reply_clear c (record_at m key) (at_clear m key h)
+reply_clear (ask.PutAll b) m h = batch_reply_clear b 1 m h
+
+puts_clear : (b : List Put) (m : Contents) → AllByRecursion (λ (p : Put). RecordClear p.rec) b → HeldClear m → HeldClear (all_put b m)
+puts_clear [] m all h = h
+puts_clear (p ∷ ps) m all h = puts_clear ps (insert m p.rec.key p.rec.columns) all.1 (λ q x e. by q x (same_key q p.rec.key) (sym (record_at-insert m p.rec q) ∙ e))
+  where
+    by : (q : Key) (x : Record) (b : Bool) → (if b then Some p.rec else record_at m q) ≡ Some x → RecordClear x
+    by q x true e = is_so RecordClear p.rec x all.0 e
+    by q x false e = h q x e
 
 after_clear : (q : Request) (m : Contents) → RequestClear q → HeldClear m → HeldClear (after q m)
 after_clear (ask.Get key) m k h = h
@@ -107,6 +122,7 @@ after_clear (ask.DeleteIf key c) m k h = λ q x e. by q x (holds c (record_at m 
     by : (q : Key) (x : Record) (b : Bool) → cond b None (record_at m q) ≡ Some x → RecordClear x
     by q x true e = none_some x e
     by q x false e = h q x e
+after_clear (ask.PutAll b) m k h = elim (is_none (unmet_from 1 b m)) as (λ (x : Bool). HeldClear (if x then all_put b m else m)) [ true ↦ puts_clear b m k h | false ↦ h ]
 
 -- What a call is answered and leaves.
 pub record CallClear (r : Reply) (now : Contents) : Type 0 where

@@ -27,7 +27,7 @@ use Rattle.sdb_phases.specs.Checks.{checks}
 use Rattle.sdb_phases.specs.Commit.{Stage, Back, Checking, Deciding, Forward, Over, Preparing, Stopping, after_abort, after_check, after_decide, after_prepare, back, checking, forward, step as commit_step}
 use Rattle.sdb_phases.specs.Steps.{decide_next, prepare_step, touched_after, validate_step}
 use Rattle.sdb_phases.proofs.Public.{by_steps}
-use Rattle.sdb_phases.specs.Work.{Work, prepares}
+use Rattle.sdb_phases.specs.Work.{Work, groups_of, prepares, writes_before}
 use Rattle.sdb_txn.specs.Phases.{ended_at}
 use Rattle.sdb_txn.specs.Txn.{progress_of}
 use Rattle.sdb_txn.specs.declared.read.ReadStep.TheVariants as step
@@ -76,7 +76,7 @@ module _ (p : Work) (key : Key) where
   checking_row i = elim (nat_lt i (length (checks p))) as (λ b. IsRowOf (cond b (Checking i) (Deciding phase.Put))) [ true ↦ λ e. none_some (outcome.BadRecord key) e | false ↦ λ e. none_some (outcome.BadRecord key) e ]
 
   forward_row : (i : ℕ) → IsRowOf (forward p i)
-  forward_row i = elim (nat_lt i (length p.writes)) as (λ b. IsRowOf (cond b (Forward i) (Over outcome.Committed))) [ true ↦ λ e. none_some (outcome.BadRecord key) e | false ↦ λ e. absurd (cc) ]
+  forward_row i = elim (nat_lt i (groups_of p)) as (λ b. IsRowOf (cond b (Forward i) (Over outcome.Committed))) [ true ↦ λ e. none_some (outcome.BadRecord key) e | false ↦ λ e. absurd (cc) ]
 
   back_row : (a : Outcome) (n i : ℕ) → IsRowOf (Over a) → IsRowOf (back a n i)
   back_row a n i h = elim (nat_lt i n) as (λ b. IsRowOf (cond b (Back a n i) (Over a))) [ true ↦ λ e. none_some (outcome.BadRecord key) e | false ↦ h ]
@@ -139,11 +139,12 @@ module _ (p : Work) (key : Key) where
   aborted_row a n (reply.NotMet found) h = back_row a n 0 h
   aborted_row a n (reply.Found found) h = h
   aborted_row a n (reply.Rows rows) h = h
+  aborted_row a n (reply.NotAll place there) h = h
   aborted_row a n reply.Fault h = h
   aborted_row a n reply.NoMemory h = h
 
   step_row : (calls : List StoreCall) (s : Stage) (r : Reply) → StageByCalls p calls s → IsRowOf (commit_step p s r)
-  step_row calls (Preparing i) r h = prepared_row i (touched_after i r) (prepare_step (nat_lt (i + 1) (length p.writes)) (slice_get (prepares p) i) r)
+  step_row calls (Preparing i) r h = prepared_row i (touched_after (slice_get (prepares p) i) (writes_before p i) r) (prepare_step (nat_lt (i + 1) (groups_of p)) (slice_get (prepares p) i) r)
   step_row calls (Checking i) r h = checked_row i (validate_step (nat_lt (i + 1) (length (checks p))) (slice_get (checks p) i) r)
   step_row calls (Deciding d) r h = decided_row (decide_next p.id d r).0 (decide_next p.id d r).1 (decides_row d r)
   step_row calls (Forward i) r h = forward_row (i + 1)

@@ -8,7 +8,7 @@ use Rattle.std.specs.FinMap.{empty}
 use Rattle.std.proofs.lemmas.List.{length-map}
 use Rattle.std.proofs.lemmas.List.Elements.{Contains-append_right}
 use Rattle.law_runs.specs.Types.{Answer, Decided, Event, How, Key, Place, Record, Reply, Request, Table, TxId}
-use Rattle.sdb_types.specs.Contents.{Contents}
+use Rattle.sdb_types.specs.Contents.{Contents, IsWellFormed}
 use Rattle.sdb_types.proofs.Public.{none_some as none_of, one_of, or_first, or_true, some_is}
 use Rattle.sdb_record.specs.declared.coordinator.Decision.TheVariants as decision
 use Rattle.sdb_record.specs.Coordinator.{coordinator_key_of, coordinator_table, decision_in, is_coordinator_table}
@@ -17,7 +17,7 @@ use Rattle.sdb_record.specs.Rolls.{image_of}
 use Rattle.sdb_model.specs.declared.event.Event.TheVariants as event
 use Rattle.sdb_model.specs.declared.event.How.TheVariants.{Seen}
 use Rattle.sdb_model.specs.Follows.{has_stopped, in_flight}
-use Rattle.sdb_model.specs.Events.{Contact, StoreContents, contact_of, moment, stored_at, table_asked}
+use Rattle.sdb_model.specs.Events.{Contact, EffectOf, IsTrace, StoreContents, contact_of, moment, stored_at, table_asked}
 use Rattle.sdb_model.specs.Requests.{records_put}
 use Rattle.sdb_model.specs.Exec.{find_table}
 use Rattle.sdb_model.specs.InFlight.{AllApplied, FlightsExplained, IsCertainAt, IsCheckedAt, IsInFlightAt, IsOfTombstone, IsOpenAt, IsRollBack, IsRollForward, WasAsked}
@@ -110,6 +110,13 @@ contact_moved at (event.Clock m) = refl
 contact_moved at (event.Idle c) = refl
 contact_moved at (event.Land n store q how r) = refl
 contact_moved at (event.Alter table column kind altered) = refl
+
+-- what an event of a trace asks is a request that may be made
+asked_formed : (places : List Place) (front : List Event) (e : Event) (back : List Event) (opening : List StoreContents) (moments : List (List StoreContents)) (closing : List StoreContents) (c : Contact) → IsTrace places (front ++ e ∷ back) opening moments closing → contact_of e ≡ Some c → IsWellFormed c.request
+asked_formed places [] e back opening [] closing c trace is = absurd trace
+asked_formed places [] e back opening (s ∷ ss) closing c trace is = (subst (λ (o : Option Contact). EffectOf places o opening s) is trace.0).formed
+asked_formed places (x ∷ xs) e back opening [] closing c trace is = absurd trace
+asked_formed places (x ∷ xs) e back opening (s ∷ ss) closing c trace is = asked_formed places xs e back s ss closing c trace.1 is
 
 ---- lists of events that are moved
 
@@ -225,7 +232,13 @@ module _ (catalog : List Table) (name : Name) (places : List Place) (events : Li
 
   -- a prepare is about the table of the record that it puts
   prepare_played : (front : List Event) (id : TxId) (r : Record) (e : Event) (back : List Event) → events ≡ front ++ e ∷ back → IsPrepareOf id r e → is_table_of_run catalog r.key.table ≡ true
-  prepare_played front id r e back same p = ap (is_table_of_run catalog) (sym (puts_table p.contact.request r p.puts)) ∙ asked_about e p.contact p.asks (put_played front e back same)
+  prepare_played front id r e back same p = ap (is_table_of_run catalog) (sym (puts_table p.contact.request r formed p.puts)) ∙ asked_about e p.contact p.asks (put_played front e back same)
+    where
+      formed : IsWellFormed p.contact.request
+      formed =
+          asked_formed [] (moved front) (relocated_event (λ ns. name) e) (moved back) (one_store name m) a.singles a.last (moved_contact (λ ns. name) p.contact)
+          (subst (λ (es : List Event). IsTrace [] es (one_store name m) a.singles a.last) (ap moved same ∙ moved_more (λ ns. name) front (e ∷ back)) a.traced)
+          (contact_moved (λ ns. name) e ∙ ap (option_map (moved_contact (λ ns. name))) p.asks)
 
   put_on : (id : TxId) (r : Record) (e : Event) → IsPrepareOf id r e → IsPrepareOf id r (relocated_event (λ ns. name) e)
   put_on id r e p = record { contact = moved_contact (λ ns. name) p.contact; asks = contact_moved (λ ns. name) e ∙ ap (option_map (moved_contact (λ ns. name))) p.asks; puts = p.puts; prepare = p.prepare }

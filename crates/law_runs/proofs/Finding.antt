@@ -1,19 +1,20 @@
 -- What the calls of statements found at keys of tables is the row of a committed image at a moment of these calls.
 use Rattle.std.proofs.Common.{◌≡◌, ◌≢◌, ◌⊎◌, inl, inr, ℕ, zero, suc, ◌+◌, ◌<◌, ◌≤◌, ◌^◌, Bool, true, false, List, [], length, Option, Some, None, refl, sym, ap, subst, ◌∙◌, arith}
-use Rattle.std.specs.Prelude.{◌&&◌, if◌then◌else◌, IfSome, not, Contains}
+use Rattle.std.specs.Prelude.{if◌then◌else◌, IfSome, not, Contains}
 use Rattle.std.specs.Option.{option_and_then, option_map_or}
 use Rattle.std.specs.Ordering.{is_eq}
 use Rattle.std.specs.Result.{result_ok}
 use Rattle.std.proofs.lemmas.Bool.{cases_lt}
-use Rattle.law_runs.specs.Types.{Answer, Condition, Decided, Event, Image, Key, Pair, Place, Record, Reply, Request, Table, TxId}
+use Rattle.law_runs.specs.Types.{Answer, Decided, Event, Image, Key, Pair, Place, Record, Reply, Request, Table, TableName, TxId}
+use Rattle.sdb_types.specs.declared.record.Put.{Put}
 use Rattle.sdb_types.specs.declared.record.Request.TheVariants as ask
 use Rattle.sdb_types.specs.declared.record.Reply.TheVariants as reply
 use Rattle.sdb_types.specs.declared.record.State.TheVariants as state
 use Rattle.sdb_types.specs.Columns.{column}
-use Rattle.sdb_types.specs.Contents.{Contents, after, holds, is_partition, record_at, tx_id}
+use Rattle.sdb_types.specs.Contents.{Contents, IsWellFormed, is_partition, record_at, table_of_puts, tx_id}
 use Rattle.sdb_types.specs.Exact.{equal_of}
-use Rattle.sdb_types.specs.Order.{table_cmp, same_key}
-use Rattle.sdb_types.proofs.Public.{all_each, and_both, and_first, by_test, clash, none_some, not_true, record_at-key, same_key_decides, some_is, table_exact}
+use Rattle.sdb_types.specs.Order.{table_cmp}
+use Rattle.sdb_types.proofs.Public.{all_each, and_both, and_first, by_test, clash, none_some, not_true, record_at-key, some_is, table_exact}
 use Rattle.sdb_record.specs.Coordinator.{coordinator_key_of, coordinator_table, decision_in, is_coordinator_table}
 use Rattle.sdb_record.specs.Meta.{id_in, is_in, is_transactional}
 use Rattle.sdb_record.specs.Rolls.{image_of, image_under, row_of_image}
@@ -29,44 +30,42 @@ use Rattle.sdb_model.specs.Images.{decision_at, decision_on}
 use Rattle.sdb_model.specs.ReadSet.{meaning_of, reads_rows}
 use Rattle.sdb_model.specs.DirtyReads.{AnswersHaveRows, CommittedBy, HasRow, IsMeantBy, ReadsKey, AnswersAreOf, WasCommitted, WasFound}
 use Rattle.sdb_model.specs.Transactions.{Executed, client_of}
-use Rattle.law_protocol.proofs.Public.{after_put, apart_from, at_call, AtCall, get_reply, scan_reply}
+use Rattle.law_protocol.proofs.Public.{all_in_table, apart_from, at_call, AtCall, get_reply, left_elsewhere, of_key, row_is_no_data, scan_reply}
 use Rattle.law_clients.proofs.Public.{among_found, meaning_settled}
 use Rattle.law_runs.specs.DirtyReads.{FoundDecided, IsDecidedIn, IsReader, ReadBy}
 use Rattle.law_runs.proofs.Agreeing.{Stands, decisions_agree, same_row, shown_stands}
 use Rattle.law_runs.proofs.Calls.{IsAt, IsWithin, call_at, effect_at, later_call, the_first, within_statement}
-use Rattle.law_runs.proofs.Others.{PutsAt, stood_or_put}
+use Rattle.law_runs.proofs.Others.{PutsAt, PutsBy, stood_or_put}
 use Rattle.law_runs.specs.Traces.{AnswersAsRead, HasNoDirtyReads, HasTransactional, IsApart, IsExplainedTrace, Traced}
 
 ---- one event
 
--- A put at one key leaves what is at another.
-put_stays : (places : List Place) (rec : Record) (c : Condition) (r : Reply) (before now : List StoreContents) (k j : Key) → AtCall places (ask.PutIf rec c) r before now → rec.key ≡ k → k ≢ j → stored_at places now j ≡ stored_at places before j
-put_stays places rec c r before now k j a put apart = elim (a.there j) [ inl x ↦ x.1 ∙ same ∙ sym x.0 | inr x ↦ x.0 ]
+-- A call leaves what is at keys of other tables.
+call_leaves : (places : List Place) (q : Request) (r : Reply) (before now : List StoreContents) (j : Key) → AtCall places q r before now → j.table ≢ table_asked q → stored_at places now j ≡ stored_at places before j
+call_leaves places q r before now j a apart = elim (a.there j) [ inl x ↦ x.1 ∙ same ∙ sym x.0 | inr x ↦ x.0 ]
   where
-    other : same_key j rec.key ≡ false
-    other = by (same_key_decides j rec.key)
-      where
-        by : ((same_key j rec.key ≡ true) × (j ≡ rec.key)) ⊎ ((same_key j rec.key ≡ false) × (j ≢ rec.key)) → same_key j rec.key ≡ false
-        by (inl e) = absurd (apart (sym put ∙ sym e.1))
-        by (inr n) = n.0
-
-    off : (b : Bool) (x y : Option Record) → (if b && false then x else y) ≡ y
-    off true x y = refl
-    off false x y = refl
-
-    left : (m : Contents) → record_at (after (ask.PutIf rec c) m) j ≡ record_at m j
-    left m = after_put rec c m j ∙ ap (λ (s : Bool). if holds c (record_at m rec.key) && s then Some rec else record_at m j) other ∙ off (holds c (record_at m rec.key)) (Some rec) (record_at m j)
-
     same : record_at a.left j ≡ record_at a.held j
-    same = elim a.moved [ inl m ↦ ap (λ (y : Contents). record_at y j) m.0 ∙ left a.held | inr m ↦ ap (λ (y : Contents). record_at y j) m.0 ]
+    same = elim a.moved [ inl m ↦ ap (λ (y : Contents). record_at y j) m.0 ∙ left_elsewhere q a.held j a.formed apart | inr m ↦ ap (λ (y : Contents). record_at y j) m.0 ]
 
-put_leaves : (places : List Place) (e : Event) (before now : List StoreContents) (k j : Key) → Effect places e before now → PutsAt e k → k ≢ j → stored_at places now j ≡ stored_at places before j
-put_leaves places (event.Call client store (ask.PutIf rec c) how r answer) before now k j effect put apart = put_stays places rec c r before now k j (at_call places store (ask.PutIf rec c) how r before now effect) put apart
-put_leaves places (event.Land number store (ask.PutIf rec c) how r) before now k j effect put apart = put_stays places rec c r before now k j (at_call places store (ask.PutIf rec c) how r before now effect) put apart
-put_leaves places (event.Land number store (ask.Get key) how r) before now k j effect put apart = absurd put
-put_leaves places (event.Land number store (ask.Scan span) how r) before now k j effect put apart = absurd put
-put_leaves places (event.Land number store (ask.DeleteIf key c) how r) before now k j effect put apart = absurd put
-put_leaves places e before now k j effect put apart = absurd put
+-- a key at which a request puts is of the table that it asks of
+put_table : (q : Request) (k : Key) → IsWellFormed q → PutsBy q k → k.table ≡ table_asked q
+put_table (ask.Get key) k formed put = absurd put
+put_table (ask.Scan span) k formed put = absurd put
+put_table (ask.PutIf rec c) k formed put = ap (λ (y : Key). y.table) (sym put)
+put_table (ask.DeleteIf key c) k formed put = absurd put
+put_table (ask.PutAll batch) k formed put = let p = of_key (λ (x : Put). x.rec.key) (λ (x : Put). x.rec.key.table ≡ table_of_puts batch) batch k (all_in_table batch formed.one) put in ap (λ (y : Key). y.table) (sym p.1) ∙ p.2
+
+-- An event that puts at a key of one table leaves what is at keys of others.
+put_leaves : (places : List Place) (e : Event) (before now : List StoreContents) (k j : Key) → Effect places e before now → PutsAt e k → k.table ≢ j.table → stored_at places now j ≡ stored_at places before j
+put_leaves places (event.Call client store q how r answer) before now k j effect put apart =
+    let a = at_call places store q how r before now effect in call_leaves places q r before now j a (λ same. apart (put_table q k a.formed put ∙ sym same))
+put_leaves places (event.Land number store q how r) before now k j effect put apart =
+    let a = at_call places store q how r before now effect in call_leaves places q r before now j a (λ same. apart (put_table q k a.formed put ∙ sym same))
+put_leaves places (event.Take client text answer) before now k j effect put apart = absurd put
+put_leaves places (event.Stop client) before now k j effect put apart = absurd put
+put_leaves places (event.Clock moment) before now k j effect put apart = absurd put
+put_leaves places (event.Idle client) before now k j effect put apart = absurd put
+put_leaves places (event.Alter table column kind altered) before now k j effect put apart = absurd put
 
 -- what is at a key has that key
 standing_key : (places : List Place) (now : List StoreContents) (key : Key) (r : Record) → stored_at places now key ≡ Some r → r.key ≡ key
@@ -109,6 +108,7 @@ read_of (ask.Get k) r key found h = absurd h
 read_of (ask.Scan span) r key found h = absurd h
 read_of (ask.PutIf rec c) r key found h = absurd h
 read_of (ask.DeleteIf k c) r key found h = absurd h
+read_of (ask.PutAll batch) r key found h = absurd h
 
 ---- decisions
 
@@ -163,7 +163,7 @@ module _ (catalog : List Table) (places : List Place) (events : List Event) (ope
   at_of : (m : StoreCall) → Contains calls m → IsAt places opening moments 1 m
   at_of m has = call_at places events opening closing moments client m trace (within m has).among
 
-  module _ (x : ContentsExplained catalog places events opening moments) (row : Option (List Pair)) (w : WasFound calls key row) where
+  module _ (none : find_table catalog coordinator_table ≡ None) (x : ContentsExplained catalog places events opening moments) (row : Option (List Pair)) (w : WasFound calls key row) where
     read : IsRead w.call.request w.call.reply key w.found
     read = read_of w.call.request w.call.reply key w.found w.shows
 
@@ -272,8 +272,8 @@ module _ (catalog : List Table) (places : List Place) (events : List Event) (ope
             more : (a b l : ℕ) → a < b → b ≤ l → a < l
             more a b l i j = omega (arith, i, j)
 
-        apart : coordinator_key_of d.id ≢ key
-        apart e = none_some r (sym c.none ∙ ap (stored_at places (now c.p)) e ∙ still)
+        apart : (coordinator_key_of d.id).table ≢ key.table
+        apart same = clash (sym ((apart_from catalog none).outside key table) ∙ ap (λ (t : TableName). not (is_coordinator_table t)) (sym same) ∙ row_is_no_data d.id.0)
 
         put_there : stored_at places (now (suc c.p)) key ≡ Some r
         put_there =
@@ -390,4 +390,4 @@ answers_committed t none x all rolled answers = answers_as t.catalog (ReadBy t.c
   where
     committed : (client : ℕ) (s : Executed) (key : Key) (row : Option (List Pair)) → ReadBy t.catalog t.events client s key row → CommittedBy t.places t.events t.opening t.moments client s key row
     committed client s key row (reader, table, w) =
-        found_committed t.catalog t.places t.events t.opening t.closing t.moments client s key t.trace table x row w (resolved_decided t.catalog t.places t.events t.opening t.closing t.moments client s key t.trace table none all rolled reader)
+        found_committed t.catalog t.places t.events t.opening t.closing t.moments client s key t.trace table none x row w (resolved_decided t.catalog t.places t.events t.opening t.closing t.moments client s key t.trace table none all rolled reader)

@@ -1,13 +1,14 @@
 -- COMMITs that prepare otherwise than what their transaction's statement wrote are refused.
 use Rattle.std.proofs.Common.{◌≡◌, ◌<◌, ◌≤◌, arith, ℕ, zero, suc, true, false, List, [], ◌∷◌, take, Option, Some, None, refl, sym, ap, subst, ◌∙◌}
-use Rattle.std.specs.Prelude.{if◌then◌else◌, find, is_some}
+use Rattle.std.specs.Prelude.{◌||◌, if◌then◌else◌, find, is_some}
 use Rattle.std.specs.FinMap.{empty}
 use Rattle.std.specs.Option.{option_and_then, option_map_or}
 use Rattle.std.proofs.lemmas.List.Elements.{Contains-append_left, Contains-push}
-use Rattle.law_runs.specs.Types.{Answer, Event, Key, Record, Reply, Request, Table, Value}
+use Rattle.law_runs.specs.Types.{Answer, Event, Key, Record, Reply, Request, Table, Value, Write}
 use Rattle.sdb_types.specs.declared.record.Reply.TheVariants as reply
 use Rattle.sdb_types.specs.declared.record.Request.TheVariants as ask
 use Rattle.sdb_record.specs.declared.coordinator.Decision.TheVariants as decision
+use Rattle.sdb_record.specs.Rolls.{prepared_record}
 use Rattle.sdb_record.proofs.Public.{prepared-key}
 use Rattle.sdb_model.specs.declared.answer.Answer.TheVariants as answer
 use Rattle.sdb_model.specs.declared.event.How.TheVariants.{Seen}
@@ -16,14 +17,15 @@ use Rattle.sdb_model.specs.Calls.{StoreCall, calls_of}
 use Rattle.sdb_model.specs.Catalogs.{catalog_after}
 use Rattle.sdb_model.specs.Causes.{before}
 use Rattle.sdb_model.specs.Exec.{Tables}
+use Rattle.sdb_model.specs.Requests.{keys_asked}
 use Rattle.sdb_model.specs.Sql.{reads_commit}
-use Rattle.sdb_model.specs.Transactions.{Executed, changes_nothing, commit_of, ends, from_begin, id_of, point, rest_of, statements_by}
+use Rattle.sdb_model.specs.Transactions.{Executed, changes_nothing, commit_of, ends, from_begin, id_of, is_prepared_record, point, prepares, rest_of, statements_by}
 use Rattle.law_clients.specs.Keys.{keys_on, keys_written, with_keys}
 use Rattle.law_answers.proofs.Public.{effective_by, IsMiddle, middle_ends, prepared_is}
-use Rattle.law_runs.specs.Forged.{CommitText, InsertOn, SelectOn, StatementOn, decides_early, decides_unapplied, decides_unprepared, insert_key, prepare_first, prepares_unwritten}
+use Rattle.law_runs.specs.Forged.{CommitText, InsertOn, SelectOn, StatementOn, decides_early, decides_unapplied, decides_unprepared, insert_key, prepare_first, prepare_two, prepares_another, prepares_unwritten}
 use Rattle.law_runs.specs.Found.{AllRunAs, AreUnder, answered_inside, found_by, nothing_found, with_found}
 use Rattle.law_runs.specs.Laws.{row_put}
-use Rattle.law_runs.specs.Written.{CommitsPrepareWritten, DecisionsFollowPoints, IsAfterPoint, PreparesAll, keys_of}
+use Rattle.law_runs.specs.Written.{CommitsPrepareWritten, DecisionsFollowPoints, IsAfterPoint, PreparesAll, groups_of_keys, keys_of}
 use Rattle.law_runs.proofs.ForgedFound.{after_call, begin_said, begun, got_none, got_removed, insert_commits, one_running, select_commits, since_first}
 use Rattle.law_runs.proofs.OwnPrepares.{ends_commit}
 use Rattle.law_runs.proofs.Preparing.{one_prepared}
@@ -75,15 +77,15 @@ module _ (f : StatementOn) (no_commit : reads_commit f.text ≡ false) (b : Answ
       ∙ ap (λ (o : Option Table). with_keys [] (option_map_or (λ x. keys_on x f.statement found) o [])) f.named
 
   -- what its calls prepare
-  commit_prepares : CommitsPrepareWritten f.catalog events → PreparesAll (with_keys [] (keys_on f.table f.statement found)) (id_of 1 1) (calls_of events 1 z)
+  commit_prepares : CommitsPrepareWritten f.catalog events → PreparesAll (groups_of_keys (with_keys [] (keys_on f.table f.statement found))) (id_of 1 1) (calls_of events 1 z)
   commit_prepares law =
-      subst (λ ks. PreparesAll ks (id_of 1 1) (calls_of events 1 z)) keys_are
+      subst (λ ks. PreparesAll (groups_of_keys ks) (id_of 1 1) (calls_of events 1 z)) keys_are
       (law 1 z (id_of 1 1) (record { commit = (refl, commits); under = f.catalog; accepted = subst (AreUnder f.catalog events f.catalog) (sym ran) (accepted, tt); statements = Some f.statement ∷ []; run = subst (λ ss. AllRunAs ss (Some f.statement ∷ [])) (sym ran) ((effective_by s b false refl changes, f.reads), tt) }))
 
 ---- the forgeries
 
 pub unwritten_refused : (f : SelectOn) (r : Record) (row : List Value) (t : CommitText) → CommitsPrepareWritten f.on.catalog (prepares_unwritten f r row t) → ⊥
-unwritten_refused f r row t law = by has.count (sym (one_prepared (id_of 1 1) [] m t.write.key (prepared_is (id_of 1 1) t.now t.write) (ap Some (prepared-key t.write (id_of 1 1) t.now))) ∙ has.prepared)
+unwritten_refused f r row t law = by has.count (sym (one_prepared (id_of 1 1) [] m (t.write.key ∷ []) (prepared_is (id_of 1 1) t.now t.write) (ap (λ k. k ∷ []) (prepared-key t.write (id_of 1 1) t.now))) ∙ has.prepared)
   where
     m : StoreCall
     m = record { at = 5; store = []; request = prepare_first t; how = Seen; reply = reply.Applied }
@@ -92,10 +94,10 @@ unwritten_refused f r row t law = by has.count (sym (one_prepared (id_of 1 1) []
     keys = ap (λ st. with_keys [] (keys_on f.on.table st (with_found f.on.catalog nothing_found (found_by (read_call (ask.Get t.write.key) (reply.Found (Some r)) ∷ []))).rows)) f.is
 
     has : PreparesAll [] (id_of 1 1) (m ∷ [])
-    has = subst (λ ks. PreparesAll ks (id_of 1 1) (m ∷ [])) keys
+    has = subst (λ ks. PreparesAll (groups_of_keys ks) (id_of 1 1) (m ∷ [])) keys
         (commit_prepares f.on (select_commits f) (answer.Rows (row ∷ [])) (record { undone = refl; agrees = refl }) refl (ask.Get t.write.key) (reply.Found (Some r)) t (prepares_unwritten f r row t) refl refl refl law)
 
-    by : (n : ℕ) → t.write.key ∷ [] ≡ take n [] → ⊥
+    by : (n : ℕ) → (t.write.key ∷ []) ∷ [] ≡ take n [] → ⊥
     by zero e = cc
     by (suc n) e = cc
 
@@ -106,7 +108,27 @@ inserted f =
     ∙ ap (λ st. with_keys [] (keys_on f.on.table st (with_row empty (insert_key f) None))) f.is
     ∙ ap (λ b. with_keys [] (if b then [] else insert_key f ∷ [])) (ap is_some (got_removed empty (insert_key f)))
 
-none_first : (k : Key) → [] ≡ k ∷ [] → ⊥
+pub another_refused : (f : InsertOn) (t : CommitText) (w : Write) → CommitsPrepareWritten f.on.catalog (prepares_another f t w) → ⊥
+another_refused f t w law = by has.count (sym (one_prepared (id_of 1 1) [] m (t.write.key ∷ w.key ∷ []) is_put keys) ∙ has.prepared)
+  where
+    m : StoreCall
+    m = record { at = 5; store = []; request = prepare_two t w; how = Seen; reply = reply.Applied }
+
+    is_put : prepares (id_of 1 1) (prepare_two t w) ≡ true
+    is_put = ap (λ b. b || is_prepared_record (id_of 1 1) (prepared_record w (id_of 1 1) t.now)) (prepared_is (id_of 1 1) t.now t.write)
+
+    keys : keys_asked (prepare_two t w) ≡ t.write.key ∷ w.key ∷ []
+    keys = λ i. prepared-key t.write (id_of 1 1) t.now i ∷ prepared-key w (id_of 1 1) t.now i ∷ []
+
+    has : PreparesAll ((insert_key f ∷ []) ∷ []) (id_of 1 1) (m ∷ [])
+    has = subst (λ ks. PreparesAll (groups_of_keys ks) (id_of 1 1) (m ∷ [])) (inserted f)
+        (commit_prepares f.on (insert_commits f) (answer.Count 1) (record { undone = refl; agrees = refl }) refl (ask.Get (insert_key f)) (reply.Found None) t (prepares_another f t w) refl refl refl law)
+
+    by : (n : ℕ) → (t.write.key ∷ w.key ∷ []) ∷ [] ≡ take n ((insert_key f ∷ []) ∷ []) → ⊥
+    by zero e = cc
+    by (suc n) e = cc
+
+none_first : (k : Key) → [] ≡ (k ∷ []) ∷ [] → ⊥
 none_first k e = cc
 
 pub unprepared_refused : (f : InsertOn) (t : CommitText) → CommitsPrepareWritten f.on.catalog (decides_unprepared f t) → ⊥
@@ -115,8 +137,8 @@ unprepared_refused f t law = none_first (insert_key f) (has.decided m (Contains-
     m : StoreCall
     m = record { at = 5; store = []; request = row_put (id_of 1 1) decision.Committed t.now; how = Seen; reply = reply.Applied }
 
-    has : PreparesAll (insert_key f ∷ []) (id_of 1 1) (m ∷ [])
-    has = subst (λ ks. PreparesAll ks (id_of 1 1) (m ∷ [])) (inserted f)
+    has : PreparesAll ((insert_key f ∷ []) ∷ []) (id_of 1 1) (m ∷ [])
+    has = subst (λ ks. PreparesAll (groups_of_keys ks) (id_of 1 1) (m ∷ [])) (inserted f)
         (commit_prepares f.on (insert_commits f) (answer.Count 1) (record { undone = refl; agrees = refl }) refl (ask.Get (insert_key f)) (reply.Found None) t (decides_unprepared f t) refl refl refl law)
 
 pub unapplied_refused : (f : InsertOn) (t : CommitText) → CommitsPrepareWritten f.on.catalog (decides_unapplied f t) → ⊥
@@ -128,8 +150,8 @@ unapplied_refused f t law = none_first (insert_key f) (has.decided m (Contains-p
     m : StoreCall
     m = record { at = 6; store = []; request = row_put (id_of 1 1) decision.Committed t.now; how = Seen; reply = reply.Applied }
 
-    has : PreparesAll (insert_key f ∷ []) (id_of 1 1) (p ∷ m ∷ [])
-    has = subst (λ ks. PreparesAll ks (id_of 1 1) (p ∷ m ∷ [])) (inserted f)
+    has : PreparesAll ((insert_key f ∷ []) ∷ []) (id_of 1 1) (p ∷ m ∷ [])
+    has = subst (λ ks. PreparesAll (groups_of_keys ks) (id_of 1 1) (p ∷ m ∷ [])) (inserted f)
         (commit_prepares f.on (insert_commits f) (answer.Count 1) (record { undone = refl; agrees = refl }) refl (ask.Get (insert_key f)) (reply.Found None) t (decides_unapplied f t) refl refl refl law)
 
 pub early_refused : (f : InsertOn) (t : CommitText) → DecisionsFollowPoints (decides_early f t) → ⊥

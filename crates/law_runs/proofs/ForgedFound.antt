@@ -12,7 +12,6 @@ use Rattle.sdb_types.specs.declared.record.Request.TheVariants as ask
 use Rattle.sdb_types.specs.Order.{key_cmp, table_cmp, same_key}
 use Rattle.sdb_types.proofs.Public.{and_false, clash, key_exact, key_total, same_key_self, table_total}
 use Rattle.std.proofs.lemmas.List.Elements.{Contains-push}
-use Rattle.sdb_model.specs.Counted.{is_key_of}
 use Rattle.sdb_record.specs.Coordinator.{is_coordinator_table}
 use Rattle.sdb_record.specs.Parts.{user_columns}
 use Rattle.sdb_model.specs.declared.answer.Answer.TheVariants as answer
@@ -326,7 +325,7 @@ unrolled_refused f key r row finds law =
     means : meaning_of (get_call ∷ []) r ≡ None
     means =
         ap (λ b. if b then Some r else option_and_then (λ m. put_by m.request) (find (rolls r) (get_call ∷ []))) finds.unresolved
-        ∙ ap (λ b. option_and_then (λ (m : StoreCall). put_by m.request) (if b then Some get_call else None)) (and_false (is_key_of r.key get_call))
+        ∙ ap (λ b. option_and_then (λ (m : StoreCall). put_by m.request) (if b then Some get_call else None)) (and_false (is_eq (key_cmp key r.key)))
 
     rows : (view f.on (ask.Get key) (reply.Found (Some r))).rows ≡ with_row empty key None
     rows = ap (λ fs. (with_found f.on.catalog nothing_found fs).rows) (got f.on key (Some r) finds.inside) ∙ ap (λ o. (with_one_found f.on.catalog nothing_found (key, o)).rows) means

@@ -1,18 +1,23 @@
 -- COMMITs that roll otherwise than they prepared are refused.
-use Rattle.std.proofs.Common.{◌≡◌, ◌⊎◌, inl, inr, Bool, true, false, List, [], ◌∷◌, ◌++◌, map, take, Some, refl, sym, ap, subst, ◌∙◌}
+use Rattle.std.proofs.Common.{◌≡◌, ◌⊎◌, inl, inr, ◌<◌, Bool, true, false, List, [], ◌∷◌, ◌++◌, length, map, take, Some, refl, sym, ap, subst, ◌∙◌, arith}
 use Rattle.std.specs.List.{AllByRecursion}
 use Rattle.std.proofs.lemmas.List.Elements.{Contains-push}
-use Rattle.law_runs.specs.Types.{Check, Record, Request, Write}
+use Rattle.law_runs.specs.Types.{Check, Condition, Record, Request, Write}
+use Rattle.sdb_types.specs.declared.record.Put.{Put}
 use Rattle.sdb_types.specs.declared.record.Condition.TheVariants as condition
 use Rattle.sdb_types.specs.declared.record.Reply.TheVariants as reply
 use Rattle.sdb_types.specs.declared.record.Request.TheVariants as ask
+use Rattle.sdb_types.specs.Contents.{sent}
 use Rattle.sdb_types.proofs.Public.{append_all as each_append, clash}
 use Rattle.sdb_record.specs.declared.coordinator.Decision.TheVariants as decision
+use Rattle.sdb_record.specs.Groups.{IsGroup, grouped, ungrouped}
+use Rattle.sdb_record.proofs.Public.{each_group}
 use Rattle.sdb_model.specs.declared.answer.Answer.TheVariants as answer
 use Rattle.sdb_model.specs.Calls.{is_read}
+use Rattle.sdb_model.specs.Requests.{any_of, puts_in}
 use Rattle.sdb_model.specs.Transactions.{Executed, id_of, prepares}
 use Rattle.sdb_phases.specs.Checks.{checks}
-use Rattle.sdb_phases.specs.Work.{Work, forward_of, forwards, prepare_of}
+use Rattle.sdb_phases.specs.Work.{Work, forwards, forwards_of, prepare_of, prepares_of}
 use Rattle.sdb_phases.specs.Work as work
 use Rattle.law_answers.specs.Paths.{Asks, Call, IsForRow, check_requests, requests_of, touched, undone}
 use Rattle.law_answers.specs.Ends.{IsAbortFailed}
@@ -63,15 +68,21 @@ is_delete q = false
 abbrev KeepsAll : Request → Type 0
 KeepsAll q = is_delete q ≡ false
 
-prepares_keep : (p : Work) (ws : List Write) → AllByRecursion KeepsAll (map (prepare_of p.id p.now) ws)
+puts_keep : (b : List Put) → KeepsAll (sent b)
+puts_keep [] = refl
+puts_keep (p ∷ []) = refl
+puts_keep (p ∷ q ∷ ps) = refl
+
+prepares_keep : (p : Work) (gs : List (List Write)) → AllByRecursion KeepsAll (map (prepares_of p.id p.now) gs)
 prepares_keep p [] = tt
-prepares_keep p (w ∷ ws) = (refl, prepares_keep p ws)
+prepares_keep p (g ∷ gs) = (puts_keep (map (prepare_of p.id p.now) g), prepares_keep p gs)
 
 reads_keep : (q : Request) → is_read q ≡ true → KeepsAll q
 reads_keep (ask.Get key) e = refl
 reads_keep (ask.Scan span) e = refl
 reads_keep (ask.PutIf r c) e = refl
 reads_keep (ask.DeleteIf key c) e = clash (sym e)
+reads_keep (ask.PutAll batch) e = clash (sym e)
 
 checks_keep : (cs : List Check) → AllByRecursion (λ (c : Check). is_read c.request ≡ true) cs → AllByRecursion (λ (c : Check). KeepsAll c.request) cs
 checks_keep [] h = tt
@@ -83,7 +94,7 @@ row_keeps p q (inr (inl e)) = ap is_delete e
 row_keeps p q (inr (inr e)) = ap is_delete e
 
 none_deleted : (p : Work) (calls : List Call) → Asks p calls [] → AllByRecursion KeepsAll (requests_of calls)
-none_deleted p calls a = asked_all KeepsAll p calls a (prepares_keep p p.writes) (checks_keep (checks p) (checks_read p)) (row_keeps p)
+none_deleted p calls a = asked_all KeepsAll p calls a (prepares_keep p (grouped p.writes)) (checks_keep (checks p) (checks_read p)) (row_keeps p)
 
 pub unprepared_roll_refused : (f : InsertOn) (t : CommitText) (r : Record) → CommitsArePaths (rolls_unprepared f t r) → ⊥
 unprepared_roll_refused f t r law = by (law 1 s (answer.Conflict t.write.key (Some r)) (Contains-push (begun f ∷ inserted f ∷ []) s) t.commits refl)
@@ -97,12 +108,12 @@ unprepared_roll_refused f t r law = by (law 1 s (answer.Conflict t.write.key (So
     deletes : (p : Work) → Asks p calls [] → ⊥
     deletes p a = let h : AllByRecursion KeepsAll (requests_of calls) = none_deleted p calls a in clash h.1.1.0
 
-    none_touched : (ws : List Write) → touched ws calls ≡ []
+    none_touched : (gs : List (List Write)) → touched gs calls ≡ []
     none_touched [] = refl
-    none_touched (w ∷ ws) = refl
+    none_touched (g ∷ gs) = refl
 
     rolled : (p : Work) → Asks p calls (undone p calls) ⊎ (IsAbortFailed p calls × Asks p calls []) → ⊥
-    rolled p (inl a) = deletes p (subst (Asks p calls) (ap (map (work.back_of p.id)) (none_touched p.writes)) a)
+    rolled p (inl a) = deletes p (subst (Asks p calls) (ap (λ gs. map (work.back_of p.id) (ungrouped gs)) (none_touched (grouped p.writes))) a)
     rolled p (inr a) = deletes p a.1
 
     by : IsAtOnce (rolls_unprepared f t r) 1 s (answer.Conflict t.write.key (Some r)) ⊎ IsCommitPath (rolls_unprepared f t r) 1 s (answer.Conflict t.write.key (Some r)) → ⊥
@@ -119,10 +130,14 @@ row_prepares_none p q (inl e) = ap (prepares (id_of 1 1)) e ∙ row_no (id_of 1 
 row_prepares_none p q (inr (inl e)) = ap (prepares (id_of 1 1)) e
 row_prepares_none p q (inr (inr e)) = ap (prepares (id_of 1 1)) e ∙ row_no (id_of 1 1) p.id decision.Aborted p.now condition.Absent
 
--- it puts a record in place of one
+-- a condition holds of some record alone
+abbrev is_over_one : Condition → Bool
+is_over_one condition.Absent = false
+is_over_one (condition.Version id state) = true
+
+-- it puts some record in place of one
 abbrev is_over_put : Request → Bool
-is_over_put (ask.PutIf r (condition.Version id state)) = true
-is_over_put q = false
+is_over_put q = any_of (λ (x : Record × Condition). is_over_one x.1) (puts_in q)
 
 abbrev PutsNoneOver : Request → Type 0
 PutsNoneOver q = is_over_put q ≡ false
@@ -132,23 +147,28 @@ module _ (t : CommitText) (more : List Call) (puts : AllByRecursion PutsNoneOver
   abbrev calls : List Call
   calls = record { request = prepare_first t; reply = reply.Applied } ∷ more
 
-  nothing_written : (p : Work) → p.writes ≡ [] → Asks p calls [] → ⊥
+  nothing_written : (p : Work) → grouped p.writes ≡ [] → Asks p calls [] → ⊥
   nothing_written p e a =
-      let h : AllByRecursion PreparesNone (requests_of calls) = asked_all PreparesNone p calls a (subst (λ ws. AllByRecursion PreparesNone (map (prepare_of p.id p.now) ws)) (sym e) tt) (checks_no (id_of 1 1) p) (row_prepares_none p) in
+      let h : AllByRecursion PreparesNone (requests_of calls) = asked_all PreparesNone p calls a (subst (λ gs. AllByRecursion PreparesNone (map (prepares_of p.id p.now) gs)) (sym e) tt) (checks_no (id_of 1 1) p) (row_prepares_none p) in
       clash (sym (prepared_is (id_of 1 1) t.now t.write) ∙ h.0)
 
-  rolls_one : (p : Work) (w : Write) (qs : List Request) → Asks p calls (forward_of p.id p.now w ∷ qs) → ⊥
-  rolls_one p w qs a =
-      let h : AllByRecursion PutsNoneOver (take a.prepared (work.prepares p) ++ take a.checked (check_requests p) ++ a.row ++ forward_of p.id p.now w ∷ qs) = subst (AllByRecursion PutsNoneOver) a.whole (refl, puts) in
-      let z : AllByRecursion PutsNoneOver (forward_of p.id p.now w ∷ qs) = right_all PutsNoneOver (take a.prepared (work.prepares p) ++ take a.checked (check_requests p) ++ a.row) (forward_of p.id p.now w ∷ qs) h in
-      clash z.0
+  group_over : (p : Work) (g : List Write) → 0 < length g → is_over_put (forwards_of p.id p.now g) ≡ true
+  group_over p [] some = absurd (omega (arith, some))
+  group_over p (w ∷ []) some = refl
+  group_over p (w ∷ v ∷ ws) some = refl
+
+  rolls_group : (p : Work) (g : List Write) (qs : List Request) → 0 < length g → Asks p calls (forwards_of p.id p.now g ∷ qs) → ⊥
+  rolls_group p g qs some a =
+      let h : AllByRecursion PutsNoneOver (take a.prepared (work.prepares p) ++ take a.checked (check_requests p) ++ a.row ++ forwards_of p.id p.now g ∷ qs) = subst (AllByRecursion PutsNoneOver) a.whole (refl, puts) in
+      let z : AllByRecursion PutsNoneOver (forwards_of p.id p.now g ∷ qs) = right_all PutsNoneOver (take a.prepared (work.prepares p) ++ take a.checked (check_requests p) ++ a.row) (forwards_of p.id p.now g ∷ qs) h in
+      clash (sym (group_over p g some) ∙ z.0)
 
   none_forward : (p : Work) → Asks p calls (forwards p) → ⊥
-  none_forward p = by p.writes refl
+  none_forward p = by (grouped p.writes) refl (each_group p.writes)
     where
-      by : (ws : List Write) → p.writes ≡ ws → Asks p calls (map (forward_of p.id p.now) ws) → ⊥
-      by [] e a = nothing_written p e a
-      by (w ∷ ws) e a = rolls_one p w (map (forward_of p.id p.now) ws) a
+      by : (gs : List (List Write)) → grouped p.writes ≡ gs → AllByRecursion IsGroup gs → Asks p calls (map (forwards_of p.id p.now) gs) → ⊥
+      by [] e are a = nothing_written p e a
+      by (g ∷ gs) e are a = rolls_group p g (map (forwards_of p.id p.now) gs) are.0.some a
 
 pub unfinished_refused : (f : InsertOn) (t : CommitText) → CommitsArePaths (ends_unfinished f t) → ⊥
 unfinished_refused f t law = by (law 1 s answer.Committed (Contains-push (begun f ∷ inserted f ∷ []) s) t.commits refl)

@@ -1,13 +1,15 @@
 -- Events that no execution has are refused by what the laws say.
-use Rattle.std.proofs.Common.{◌≡◌, ◌⊎◌, inl, inr, ◌<◌, ◌^◌, ℕ, ℤ, pos, true, List, [], ◌∷◌, Option, Some, None, refl, sym, ap, ◌∙◌}
+use Rattle.std.proofs.Common.{◌≡◌, ◌⊎◌, inl, inr, ◌<◌, ◌^◌, ℕ, ℤ, pos, true, List, [], ◌∷◌, Option, Some, None, refl, sym, ap, subst, ◌∙◌}
 use Rattle.std.specs.Prelude.{Contains, nat_lt}
 use Rattle.std.proofs.lemmas.List.Elements.{Contains-push, Contains-push_cases}
-use Rattle.law_runs.specs.Types.{Answer, Decision, Key, Span, Table, TxId, Write}
+use Rattle.law_runs.specs.Types.{Answer, Decision, Key, Request, Span, Table, TxId, Write}
+use Rattle.sdb_types.specs.declared.record.Put.{Put}
 use Rattle.sdb_types.specs.declared.record.Condition.TheVariants as condition
 use Rattle.sdb_types.specs.declared.record.Reply.TheVariants as reply
 use Rattle.sdb_types.specs.declared.record.Request.TheVariants as ask
 use Rattle.sdb_types.proofs.Public.{clash, some_is}
-use Rattle.sdb_record.specs.Coordinator.{coordinator_key_of}
+use Rattle.sdb_record.specs.declared.coordinator.Decision.TheVariants as decision
+use Rattle.sdb_record.specs.Coordinator.{coordinator_key_of, coordinator_row_of}
 use Rattle.sdb_record.specs.Meta.{is_moment}
 use Rattle.sdb_record.specs.Rolls.{prepared_record}
 use Rattle.sdb_model.specs.declared.answer.Answer.TheVariants as answer
@@ -15,11 +17,12 @@ use Rattle.sdb_model.specs.declared.event.How.TheVariants.{Seen}
 use Rattle.sdb_model.specs.Calls.{StoreCall}
 use Rattle.sdb_model.specs.Sql.{reads_begin, reads_commit, reads_vacuum}
 use Rattle.sdb_model.specs.Transactions.{Executed, client_of}
-use Rattle.law_answers.proofs.Public.{asks_row, kept_in, prepared_is}
+use Rattle.law_answers.proofs.Public.{kept_in, prepared_is}
 use Rattle.law_runs.specs.Complete.{ResolvedAreNotBusy}
-use Rattle.law_runs.specs.Forged.{busy_at_once, counted_at_once, decides_at_once, prepares_at, reads_and_is_done}
+use Rattle.law_runs.specs.Forged.{busy_at_once, counted_at_once, decides_at_once, decides_beside, prepares_at, reads_and_is_done}
 use Rattle.law_runs.specs.Laws.{BusyIsOfReads, DecisionsAreDue, GivesUp, IsOwnDecision, PreparesAreOwn, ReadsAreFew, row_put}
 use Rattle.law_runs.specs.Vacuums.{VacuumsAreComplete, spans_asked, whole_tables}
+use Rattle.law_runs.proofs.Calls.{the_first}
 use Rattle.law_runs.proofs.RowWrites.{row_key}
 use Rattle.law_runs.proofs.Statements.{none_in}
 use Rattle.law_runs.proofs.Unprepared.{moment_of}
@@ -65,11 +68,11 @@ pub moment_refused : (text : List ℕ) (w : Write) (id : TxId) (now : ℤ) → i
 moment_refused text w id now fits moment other law =
     let s : Executed = said_once text None 1 in
     let m : StoreCall = record { at = 2; store = []; request = ask.PutIf (prepared_record w id now) condition.Absent; how = Seen; reply = reply.Applied } in
-    let own = law 1 s m id (prepared_record w id now) (record { among = one_has s; call = one_has m; fits = fits; is = prepared_is id now w; puts = refl }) in
+    let own = law 1 s m id (prepared_record w id now) (record { among = one_has s; call = one_has m; fits = fits; is = prepared_is id now w; puts = one_has (prepared_record w id now) }) in
     other (some_is now (pos 0) (sym (moment_of w id now moment) ∙ own.moment))
 
 pub decision_refused : (text : List ℕ) (id : TxId) (d : Decision) (now : ℤ) → id.0 < 2 ^ 128 → (client_of id ≡ 1 → ⊥) → DecisionsAreDue (decides_at_once text id d now) → ⊥
-decision_refused text id d now fits other law = by (law 1 s m id (one_has s) (one_has m) fits (asks_row id (row_put id d now) (coordinator_key_of id) (ap Some (row_key id d now)) refl, refl))
+decision_refused text id d now fits other law = by (law 1 s m id (one_has s) (one_has m) fits (subst (λ k. Contains (k ∷ []) (coordinator_key_of id)) (sym (row_key id d now)) (one_has (coordinator_key_of id)), refl))
   where
     s : Executed
     s = said_once text None 1
@@ -85,3 +88,22 @@ decision_refused text id d now fits other law = by (law 1 s m id (one_has s) (on
       where
         no_get : row_put id d now ≡ ask.Get (coordinator_key_of id) → ⊥
         no_get z = cc
+
+pub beside_refused : (text : List ℕ) (id : TxId) (d : Decision) (now : ℤ) (other : Put) → id.0 < 2 ^ 128 → DecisionsAreDue (decides_beside text id d now other) → ⊥
+beside_refused text id d now other fits law = by (law 1 s m id (one_has s) (one_has m) fits (subst (λ k. Contains (k ∷ other.rec.key ∷ []) (coordinator_key_of id)) (sym (row_key id d now)) (the_first (coordinator_key_of id) (other.rec.key ∷ [])), refl))
+  where
+    s : Executed
+    s = said_once text None 1
+
+    both : Request
+    both = ask.PutAll (record { rec = coordinator_row_of id d now; condition = condition.Absent } ∷ other ∷ [])
+
+    m : StoreCall
+    m = record { at = 2; store = []; request = both; how = Seen; reply = reply.Applied }
+
+    no_put : (u : TxId) (e : Decision) (at : ℤ) → both ≡ row_put u e at → ⊥
+    no_put u e at z = cc
+
+    by : IsOwnDecision (decides_beside text id d now other) 1 s id m ⊎ GivesUp (decides_beside text id d now other) (m ∷ []) m id → ⊥
+    by (inl own) = no_put id own.decision _ own.asks
+    by (inr gives) = no_put id decision.Aborted _ gives.asks

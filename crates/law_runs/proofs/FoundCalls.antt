@@ -45,11 +45,12 @@ use Rattle.law_answers.specs.Reads.{LedBy, ReadsBy}
 use Rattle.law_answers.specs.Invariant.{IsWaiting, Knows}
 use Rattle.law_answers.proofs.Public.{bad_unfinished, before_same, call_executed, IsDataTable, IsOpenAt, made_at, read_checks, same_writes, observes_on, silent_executed}
 use Rattle.law_runs.specs.Found.{AreUnder, found_by, is_answered, is_scan_of, scans_span, was_scanned}
-use Rattle.law_runs.specs.Written.{PreparesAll}
+use Rattle.law_runs.specs.Written.{PreparesAll, groups_of_keys}
 use Rattle.law_runs.proofs.FoundGiven.{given_finishes}
 use Rattle.law_runs.proofs.FoundSteps.{ClientRuns, SeesIn, SeesRun, WroteAs, all_answered, answered_of_is}
 use Rattle.law_runs.proofs.FoundSteps as follows
 use Rattle.law_runs.proofs.OwnPrepares.{ends_commit, goes_further}
+use Rattle.law_runs.proofs.Preparing.{key_groups}
 use Rattle.law_runs.proofs.PreparingCalls.{WaitPrepares, call_prepares}
 use Rattle.law_runs.proofs.ReadLeads.{read_leads, reads_data}
 use Rattle.law_runs.proofs.Replies.{CallOf, CommitCall, ReadCall, SweepCall}
@@ -57,7 +58,6 @@ use Rattle.law_runs.proofs.Running.{HoldsScans, RunsTo, keys_one, running_of, sc
 use Rattle.law_runs.proofs.Statements.{calls_more}
 use Rattle.law_runs.proofs.Views.{found_now, view_found, read_only}
 use Rattle.law_runs.proofs.WroteCommits.{CommitWrote, LastWrote}
-use Rattle.law_runs.proofs.Writing.{write_keys}
 use Rattle.sdb_model.specs.Tables.{is_data}
 
 -- a COMMIT that goes on writes the same
@@ -266,10 +266,10 @@ module _ (catalog under : List Table) (is : is_catalog catalog ≡ true) (apart 
   last_wrote b (inr (inr z)) reads opened =
       subst (λ n. CommitWrote catalog (E (Some b)) c (running_of (E (Some b)) c n k.entries) (id_of c n) (calls_of (E (Some b)) c (done b))) k.begun
       (λ other accepted statements read.
-      subst (λ ks. PreparesAll ks (id_of c h.begun) (calls_of (E (Some b)) c (done b)))
+      subst (λ ks. PreparesAll (groups_of_keys ks) (id_of c h.begun) (calls_of (E (Some b)) c (done b)))
       ((commit_wrote (Some b) z).1 statements read ∙ keys_one catalog (E (Some b)) c (running_of (E (Some b)) c h.begun k.entries) statements under other (commit_wrote (Some b) z).0 accepted)
-      (subst (λ i. PreparesAll (write_keys z.k.work.writes) i (calls_of (E (Some b)) c (done b))) (z.is.same ∙ z.since.id)
-      (subst (PreparesAll (write_keys z.k.work.writes) z.k.work.id) (sym (calls_done b)) (call_prepares catalog events c h d store q how r now k.entries x prepares waits (Some b) z))))
+      (subst (λ i. PreparesAll (key_groups z.k.work) i (calls_of (E (Some b)) c (done b))) (z.is.same ∙ z.since.id)
+      (subst (PreparesAll (key_groups z.k.work) z.k.work.id) (sym (calls_done b)) (call_prepares catalog events c h d store q how r now k.entries x prepares waits (Some b) z))))
 
   -- So it is after the reply to its call.
   pub calls_runs : (a : Option Answer) → CallOf catalog events c k.entries x h q r now a d → ClientRuns catalog under (E a) c d

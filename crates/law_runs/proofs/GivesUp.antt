@@ -9,7 +9,8 @@ use Rattle.sdb_record.specs.declared.coordinator.Decision.TheVariants as decisio
 use Rattle.sdb_record.specs.Coordinator.{is_expired}
 use Rattle.sdb_record.specs.Rolls.{is_tombstone}
 use Rattle.sdb_model.specs.Catalogs.{catalog_after}
-use Rattle.sdb_model.specs.Calls.{StoreCall, calls_after, calls_of, clock_at, is_read, key_asked}
+use Rattle.sdb_model.specs.Calls.{StoreCall, calls_after, calls_of, clock_at, is_read}
+use Rattle.sdb_model.specs.Requests.{keys_asked}
 use Rattle.law_clients.specs.About.{IsDoingIn, IsIn, IsOfTables, IsStageIn, IsVacuumStageIn, IsVacuumIn, IsWorkIn}
 use Rattle.law_runs.proofs.Unprepared.{base_of}
 use Rattle.sdb_phases.specs.declared.step.RecoverPhase.TheVariants as phase
@@ -117,6 +118,7 @@ module _ (events : List Event) (calls : List StoreCall) where
   answered_gives (reply.Rows rows) = settle_gives [] rows
   answered_gives reply.Applied = tt
   answered_gives (reply.NotMet found) = tt
+  answered_gives (reply.NotAll place there) = tt
   answered_gives reply.Fault = tt
   answered_gives reply.NoMemory = tt
 
@@ -160,6 +162,7 @@ module _ (events : List Event) (calls : List StoreCall) where
   scanned_gives ss n (reply.Found found) = tt
   scanned_gives ss n reply.Applied = tt
   scanned_gives ss n (reply.NotMet found) = tt
+  scanned_gives ss n (reply.NotAll place there) = tt
   scanned_gives ss n reply.Fault = tt
   scanned_gives ss n reply.NoMemory = tt
 
@@ -185,6 +188,7 @@ module _ (events : List Event) (calls : List StoreCall) where
   removed_gives ss n left reply.Fault = tt
   removed_gives ss n left (reply.Found found) = tt
   removed_gives ss n left (reply.Rows rows) = tt
+  removed_gives ss n left (reply.NotAll place there) = tt
   removed_gives ss n left reply.NoMemory = tt
 
   abbrev SweepLooks : VacuumStage → ℤ → Reply → Type 0
@@ -460,7 +464,7 @@ module _ (catalog : List Table) (events : List Event) (c : ℕ) (h d : ClientAt)
         where
           removes : (o : Option TxId) → option_map (λ (n : TxId). ask.DeleteIf b.key (condition.Version n state.Committed)) o ≡ Some q → ⊥
           removes None e = none_some q e
-          removes (Some n) e = data_not catalog apart id q b.key (ap key_asked (sym (some_is (ask.DeleteIf b.key (condition.Version n state.Committed)) q e))) i.0 puts
+          removes (Some n) e = data_not catalog apart id q (b.key ∷ []) (ap keys_asked (sym (some_is (ask.DeleteIf b.key (condition.Version n state.Committed)) q e))) (i.0, tt) puts
       by_stage a vacuum.Over i by_calls asks gives id fits puts = none_some q asks
 
       looks : (s : VacuumStage) → VacuumStageBy ms s → vacuum.pending_at s ≡ Some q → SweepLooks (E None) (ms ++ made ∷ []) s now r

@@ -2,6 +2,8 @@ mod Ended
 mod Runs
 mod Recorded
 mod Others
+mod KeyGroups
+mod GroupPuts
 mod StoredRecords
 mod Ordered
 mod OnStores

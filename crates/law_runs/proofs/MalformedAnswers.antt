@@ -37,6 +37,7 @@ none_faulted reply.Fault rows x [] e found = cc
 none_faulted reply.Fault rows x (b ∷ bs) e found = cc
 none_faulted (reply.Found y) rows x before e found = clash (sym e)
 none_faulted (reply.Rows y) rows x before e found = clash (sym e)
+none_faulted (reply.NotAll place there) rows x before e found = clash (sym e)
 none_faulted reply.Applied rows x before e found = clash (sym e)
 none_faulted (reply.NotMet y) rows x before e found = clash (sym e)
 none_faulted reply.NoMemory rows x before e found = clash (sym e)

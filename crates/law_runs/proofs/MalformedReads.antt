@@ -129,6 +129,7 @@ answered_so (reply.Found (Some x)) = settled_so (x ∷ []) [] (x ∷ []) (record
 answered_so (reply.Rows rows) = settled_so rows [] rows (record { passed = []; split = refl; all = tt })
 answered_so reply.Applied = tt
 answered_so (reply.NotMet found) = tt
+answered_so (reply.NotAll place there) = tt
 answered_so reply.Fault = tt
 answered_so reply.NoMemory = tt
 

@@ -119,6 +119,7 @@ module _ (rows : List Record) where
   removed_so ss n left (reply.NotMet found) h = rows_so ss n left h
   removed_so ss n left (reply.Found found) h = tt
   removed_so ss n left (reply.Rows rows) h = tt
+  removed_so ss n left (reply.NotAll place there) h = tt
   removed_so ss n left reply.Fault h = tt
   removed_so ss n left reply.NoMemory h = tt
 
@@ -127,6 +128,7 @@ answered_so ss n (reply.Rows rows) = rows_so rows ss n rows (record { passed = [
 answered_so ss n (reply.Found found) = tt
 answered_so ss n reply.Applied = tt
 answered_so ss n (reply.NotMet found) = tt
+answered_so ss n (reply.NotAll place there) = tt
 answered_so ss n reply.Fault = tt
 answered_so ss n reply.NoMemory = tt
 

@@ -82,6 +82,7 @@ new_stays catalog events e c ss (ask.Get key) all h = ap (list_any (λ (fs : Lis
 new_stays catalog events e c ss (ask.Scan span) all h = scanned_stays catalog events e c ss span all ∙ h
 new_stays catalog events e c ss (ask.PutIf rec condition) all h = tt
 new_stays catalog events e c ss (ask.DeleteIf key condition) all h = tt
+new_stays catalog events e c ss (ask.PutAll batch) all h = tt
 
 -- Each read of a statement is new after those before it.
 abbrev pub StatementNew : List Event → ℕ → List Executed → Executed → Type 0

@@ -9,7 +9,8 @@ use Rattle.sdb_record.specs.Names.{tx_prepared_at}
 use Rattle.sdb_model.specs.Catalogs.{catalog_after}
 use Rattle.sdb_model.specs.declared.answer.Answer.TheVariants as answer
 use Rattle.sdb_model.specs.declared.event.Event.TheVariants as event
-use Rattle.sdb_model.specs.Calls.{StoreCall, calls_of, clock_at, put_by}
+use Rattle.sdb_model.specs.Calls.{StoreCall, calls_of, clock_at}
+use Rattle.sdb_model.specs.Requests.{records_put}
 use Rattle.sdb_model.specs.Causes.{IsCommitOf}
 use Rattle.sdb_model.specs.Rows.{Name}
 use Rattle.sdb_model.specs.Sql.{reads_commit, reads_rollback}
@@ -40,9 +41,9 @@ use Rattle.law_runs.proofs.Unprepared.{commit_own, read_no, sweep_no}
 
 ---- what is so of the calls of a statement
 
--- a call prepares for a transaction by a record
+-- a call prepares for a transaction, and this is a record that it puts
 abbrev PutsFor : StoreCall → TxId → Record → Type 0
-PutsFor m id r = (id.0 < 2 ^ 128) × (prepares id m.request ≡ true) × (put_by m.request ≡ Some r)
+PutsFor m id r = (id.0 < 2 ^ 128) × (prepares id m.request ≡ true) × Contains (records_put m.request) r
 
 abbrev NonePrepares : List StoreCall → Type 0
 NonePrepares calls = (m : StoreCall) (id : TxId) (r : Record) → Contains calls m → PutsFor m id r → ⊥

@@ -7,6 +7,7 @@ use Rattle.std.specs.FinMap.{empty}
 use Rattle.std.proofs.lemmas.List.Elements.{All-from_recursion, recursion_from_All}
 use Rattle.sdb_types.specs.Contents.{Contents, record_at}
 use Rattle.sdb_types.specs.Fits.{record_fits}
+use Rattle.sdb_types.specs.declared.record.Put.{Put}
 use Rattle.law_runs.specs.Types.{Answer, Decided, Event, Image, Key, Pair, Place, Record, Reply, Request, Table, TableDump, Value}
 use Rattle.sdb_types.specs.declared.record.Reply.TheVariants as reply
 use Rattle.sdb_types.specs.declared.record.Request.TheVariants as ask
@@ -93,17 +94,23 @@ partition_none : (o : Option (List Value)) → IfSome o AreClear → IfSome o Va
 partition_none None h = tt
 partition_none (Some vs) h = values_none vs h
 
+puts_each : (b : List Put) → AllByRecursion (λ (p : Put). RecordClear p.rec) b → AllByRecursion (λ (p : Put). RecordHasNoLf p.rec) b
+puts_each [] h = tt
+puts_each (p ∷ ps) h = (record_none p.rec h.0, puts_each ps h.1)
+
 request_none : (q : Request) → RequestClear q → RequestHasNoLf q
 request_none (ask.Get key) h = key_none key h
 request_none (ask.Scan span) h = partition_none span.partition h
 request_none (ask.PutIf r c) h = record_none r h
 request_none (ask.DeleteIf key c) h = key_none key h
+request_none (ask.PutAll b) h = All-from_recursion (λ (p : Put). RecordHasNoLf p.rec) b (puts_each b h)
 
 reply_none : (r : Reply) → ReplyClear r → ReplyHasNoLf r
 reply_none (reply.Found found) h = found_none found h
 reply_none (reply.Rows rows) h = All-from_recursion RecordHasNoLf rows (records_each rows h)
 reply_none reply.Applied h = tt
 reply_none (reply.NotMet found) h = found_none found h
+reply_none (reply.NotAll place found) h = found_none found h
 reply_none reply.Fault h = tt
 reply_none reply.NoMemory h = tt
 

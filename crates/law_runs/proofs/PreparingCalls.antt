@@ -22,11 +22,10 @@ use Rattle.law_answers.proofs.Public.{calls_open, end_waiting, later_within, mad
 use Rattle.law_runs.specs.Written.{PreparesAll}
 use Rattle.law_runs.proofs.OngoingReads.{NothingMore, reads_again}
 use Rattle.law_runs.proofs.OwnPrepares.{calls_again, goes_further}
-use Rattle.law_runs.proofs.Preparing.{CommitPrepares, prepares_first, prepares_on, prepares_with}
+use Rattle.law_runs.proofs.Preparing.{CommitPrepares, key_groups, prepares_first, prepares_on, prepares_with}
 use Rattle.law_runs.proofs.Replies.{CallOf, CommitCall, call_of}
 use Rattle.law_runs.proofs.Statements.{AreKept, SoBy, calls_more, replied_said}
 use Rattle.law_runs.proofs.Takes.{TakenAs, taken_as}
-use Rattle.law_runs.proofs.Writing.{write_keys}
 
 abbrev pub DoingPrepares : Doing → List StoreCall → Type 0
 DoingPrepares (doing.Commit k) calls = CommitPrepares k.work calls k.stage
@@ -75,7 +74,7 @@ module _ (catalog : List Table) (events : List Event) (c : ℕ) (h d : ClientAt)
     prepares_here = subst (λ (y : Doing). DoingPrepares y (calls_of events c x)) z.commits (subst (λ (o : Option TxnAt). TxnPrepares o (calls_of events c x)) z.opened so)
 
     -- what a COMMIT has prepared, with this call
-    pub call_prepares : PreparesAll (write_keys z.k.work.writes) z.k.work.id (calls_of events c x ++ made ∷ [])
+    pub call_prepares : PreparesAll (key_groups z.k.work) z.k.work.id (calls_of events c x ++ made ∷ [])
     call_prepares = prepares_with z.k.work z.writes (calls_of events c x) made older z.k.stage z.pends prepares_here
 
     then_prepares : (k : CommitAt) → (k.work ≡ z.k.work) × IsNext z.k.work z.k.stage r k.stage → CommitPrepares k.work (calls_of events c x ++ made ∷ []) k.stage

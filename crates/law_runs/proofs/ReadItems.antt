@@ -33,9 +33,11 @@ noted_by_meaning ms (ask.Get key) (reply.Found found) = refl
 noted_by_meaning ms (ask.Get key) reply.Applied = refl
 noted_by_meaning ms (ask.Get key) (reply.NotMet found) = refl
 noted_by_meaning ms (ask.Get key) (reply.Rows rows) = refl
+noted_by_meaning ms (ask.Get key) (reply.NotAll place there) = refl
 noted_by_meaning ms (ask.Get key) reply.Fault = refl
 noted_by_meaning ms (ask.Get key) reply.NoMemory = refl
 noted_by_meaning ms (ask.Scan span) (reply.Rows rows) = refl
+noted_by_meaning ms (ask.Scan span) (reply.NotAll place there) = refl
 noted_by_meaning ms (ask.Scan span) reply.Applied = refl
 noted_by_meaning ms (ask.Scan span) (reply.NotMet found) = refl
 noted_by_meaning ms (ask.Scan span) (reply.Found found) = refl
@@ -43,6 +45,7 @@ noted_by_meaning ms (ask.Scan span) reply.Fault = refl
 noted_by_meaning ms (ask.Scan span) reply.NoMemory = refl
 noted_by_meaning ms (ask.PutIf rec condition) r = refl
 noted_by_meaning ms (ask.DeleteIf key condition) r = refl
+noted_by_meaning ms (ask.PutAll batch) r = refl
 
 module _ (at : Name → Name) where
   abbrev moved_made : StoreCall → StoreCall

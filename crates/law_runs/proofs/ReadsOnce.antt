@@ -139,6 +139,7 @@ answered_read (reply.Rows rows) = settle_read [] rows
 answered_read reply.Fault = λ h. h
 answered_read reply.Applied = λ h. h
 answered_read (reply.NotMet found) = λ h. h
+answered_read (reply.NotAll place there) = λ h. h
 answered_read reply.NoMemory = λ h. h
 
 resolved_read : (images : List Record) (rec : Record) (meta : Meta) (left : List Record) (n : RecoverPhase × RecoverStep) → Read (resolved images rec meta left n)

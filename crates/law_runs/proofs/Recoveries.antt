@@ -88,6 +88,7 @@ answered_clear (reply.Found (Some r)) h = settled_clear [] (r ∷ []) tt (h, tt)
 answered_clear (reply.Rows rows) h = settled_clear [] rows tt h
 answered_clear reply.Applied h = tt
 answered_clear (reply.NotMet found) h = tt
+answered_clear (reply.NotAll place there) h = tt
 answered_clear reply.Fault h = tt
 answered_clear reply.NoMemory h = tt
 
@@ -180,6 +181,7 @@ rows_swept ss n (reply.Rows rows) h k = goes_clear ss n rows h k
 rows_swept ss n (reply.Found found) h k = ((tt, h), tt)
 rows_swept ss n reply.Applied h k = ((tt, h), tt)
 rows_swept ss n (reply.NotMet found) h k = ((tt, h), tt)
+rows_swept ss n (reply.NotAll place there) h k = ((tt, h), tt)
 rows_swept ss n reply.Fault h k = ((tt, h), tt)
 rows_swept ss n reply.NoMemory h k = ((tt, h), tt)
 
@@ -204,6 +206,7 @@ removal_swept ss n left reply.Applied h g = goes_clear ss (n + 1) left h g
 removal_swept ss n left (reply.NotMet found) h g = goes_clear ss n left h g
 removal_swept ss n left (reply.Found found) h g = ((tt, h), tt)
 removal_swept ss n left (reply.Rows rows) h g = ((tt, h), tt)
+removal_swept ss n left (reply.NotAll place there) h g = ((tt, h), tt)
 removal_swept ss n left reply.Fault h g = ((tt, h), tt)
 removal_swept ss n left reply.NoMemory h g = ((tt, h), tt)
 

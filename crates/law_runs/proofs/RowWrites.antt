@@ -1,35 +1,36 @@
 -- Which calls of a client write a row of the coordinator: a COMMIT its own, and a recovery that of the record's transaction.
-use Rattle.std.proofs.Common.{◌≡◌, ◌<◌, ◌^◌, ℤ, true, false, List, [], ◌∷◌, map, Option, Some, None, IfSome, refl, sym, ap, subst, ◌∙◌}
-use Rattle.std.specs.Prelude.{filter, not, slice_get}
+use Rattle.std.proofs.Common.{◌≡◌, ◌<◌, ◌^◌, ℕ, ℤ, inl, inr, true, false, List, [], ◌∷◌, map, Option, Some, None, IfSome, refl, sym, ap, subst, ◌∙◌}
+use Rattle.std.specs.Prelude.{Contains, filter, not, slice_get}
 use Rattle.std.specs.List.{AllByRecursion}
 use Rattle.std.specs.Option.{option_map}
-use Rattle.std.specs.Ordering.{is_eq}
 use Rattle.law_runs.specs.Types.{Check, Condition, DecidePhase, Decision, Key, Meta, Read, Record, RecoverPhase, Request, Scan, Table, TxId, Value, Write}
 use Rattle.sdb_types.specs.declared.value.Value.TheVariants as value
 use Rattle.sdb_types.specs.Columns.{column}
 use Rattle.sdb_types.specs.Contents.{tx_id}
-use Rattle.sdb_types.specs.Exact.{equal_of}
-use Rattle.sdb_types.specs.Order.{key_cmp}
-use Rattle.sdb_types.proofs.Public.{append_all as each_append, clash, key_exact, none_some, some_is}
+use Rattle.sdb_types.proofs.Public.{append_all as each_append, clash, none_some, one_of, some_is}
 use Rattle.sdb_record.specs.declared.coordinator.Decision.TheVariants as decision
 use Rattle.sdb_record.specs.Among.{is_written}
 use Rattle.sdb_record.specs.Coordinator.{coordinator_key_of, coordinator_row_of, id_of_key}
+use Rattle.sdb_record.specs.Groups.{grouped, in_groups, keys_of_writes}
 use Rattle.sdb_record.specs.Meta.{id_in, id_in_value}
 use Rattle.sdb_record.specs.Parts.{before_record}
-use Rattle.sdb_record.specs.Rolls.{IsBaseOf, IsWrite, forward_record, prepared_record, undo}
-use Rattle.sdb_record.proofs.Public.{id_of_text-is, key-of-id, prepared-key}
-use Rattle.sdb_model.specs.Calls.{is_of_row, is_read, key_asked}
+use Rattle.sdb_record.specs.Rolls.{IsBaseOf, IsWrite, undo}
+use Rattle.sdb_record.proofs.Public.{forward-key, id_of_text-is, key-of-id}
+use Rattle.sdb_model.specs.Calls.{is_read}
+use Rattle.sdb_model.specs.Requests.{keys_asked}
 use Rattle.sdb_phases.specs.declared.step.DecidePhase.TheVariants as decide
 use Rattle.sdb_phases.specs.declared.step.RecoverPhase.TheVariants as phase
 use Rattle.sdb_phases.specs.Checks.{check_of_read, check_of_scan, checks}
 use Rattle.sdb_phases.specs.Commit.{Stage, Preparing, Checking, Deciding, Forward, Stopping, Back, Over, pending}
 use Rattle.sdb_phases.specs.Recover.{recover_back, recover_forward, recover_request_at, is_as_found}
 use Rattle.sdb_phases.specs.Steps.{decide_request_at}
-use Rattle.sdb_phases.specs.Work.{Work, abort_of, back_of, decide_of, forward_of, look_of, prepare_of, is_as_prepared}
-use Rattle.law_clients.proofs.Public.{each_at, each_map}
+use Rattle.sdb_phases.specs.Work.{Work, abort_of, back_of, decide_of, forwards_of, look_of, prepares_of, is_as_prepared}
+use Rattle.law_clients.proofs.Public.{coordinators, each_at, each_map}
 use Rattle.law_clients.specs.About.{AreWritesIn, IsIn, IsRecordIn}
-use Rattle.law_answers.proofs.Public.{asks_data, mapped_at}
+use Rattle.law_answers.proofs.Public.{all_in_groups, each_in, mapped_at}
 use Rattle.law_runs.specs.Laws.{row_put}
+use Rattle.law_runs.proofs.GroupPuts.{forward_keys, group_all, prepare_keys}
+use Rattle.law_runs.proofs.Statements.{none_in}
 use Rattle.sdb_model.specs.Tables.{is_data}
 
 ---- ids and keys
@@ -47,13 +48,12 @@ pub row_key : (u : TxId) (d : Decision) (now : ℤ) → (coordinator_row_of u d 
 unfolding coordinator_row_of
 row_key u d now = refl
 
-forward_key : (r : Record) (now : ℤ) → (forward_record r now).key ≡ r.key
-unfolding forward_record
-forward_key r now = refl
+undo_keys : (c : Condition) (k : Key) (o : Option Record) → IfSome o (IsBaseOf k) → keys_asked (undo c k o) ≡ k ∷ []
+undo_keys c k None is = refl
+undo_keys c k (Some b) is = ap (λ q. q ∷ []) is.0
 
-undo_key : (c : Condition) (k : Key) (o : Option Record) → IfSome o (IsBaseOf k) → key_asked (undo c k o) ≡ Some k
-undo_key c k None is = refl
-undo_key c k (Some b) is = ap Some is.0
+only_key : (a b : Key) → Contains (a ∷ []) b → a ≡ b
+only_key a b has = elim (one_of a b [] has) [ inl same ↦ same | inr none ↦ none_in b none ]
 
 -- the checks of a COMMIT only read
 pub checks_read : (p : Work) → AllByRecursion (λ c. is_read c.request ≡ true) (checks p)
@@ -74,7 +74,7 @@ checks_read p =
 
 module _ (catalog : List Table) (apart : (k : Key) → IsIn catalog k → is_data k ≡ true) (id : TxId) where
   abbrev Writes : Request → Type 0
-  Writes q = (is_of_row id q ≡ true) × (is_read q ≡ false)
+  Writes q = Contains (keys_asked q) (coordinator_key_of id) × (is_read q ≡ false)
 
   as_asked : (p q : Request) → Some p ≡ Some q → Writes q → Writes p
   as_asked p q e = subst Writes (sym (some_is p q e))
@@ -82,26 +82,25 @@ module _ (catalog : List Table) (apart : (k : Key) → IsIn catalog k → is_dat
   pub read_not : (q : Request) → is_read q ≡ true → Writes q → ⊥
   read_not q e w = clash (sym e ∙ w.1)
 
-  pub data_not : (q : Request) (k : Key) → key_asked q ≡ Some k → IsIn catalog k → Writes q → ⊥
-  data_not q k e is w = clash (sym w.0 ∙ asks_data id q k e (apart k is))
+  pub data_not : (q : Request) (ks : List Key) → keys_asked q ≡ ks → AllByRecursion (IsIn catalog) ks → Writes q → ⊥
+  data_not q ks e all w =
+      let inside = each_in (IsIn catalog) ks (coordinator_key_of id) all (subst (λ (xs : List Key). Contains xs (coordinator_key_of id)) e w.0) in
+      clash (sym (apart (coordinator_key_of id) inside) ∙ ap not (coordinators id))
 
   -- a row is of one transaction
   row_is : (u : TxId) (d : Decision) (now : ℤ) → id.0 < 2 ^ 128 → u.0 < 2 ^ 128 → Writes (row_put u d now) → id ≡ u
   row_is u d now fits own w = some_is id u (sym (key-of-id id fits) ∙ ap id_of_key (sym same) ∙ key-of-id u own)
     where
-      is : is_eq (key_cmp (coordinator_key_of u) (coordinator_key_of id)) ≡ true
-      is = ap (λ (k : Key). is_eq (key_cmp k (coordinator_key_of id))) (sym (row_key u d now)) ∙ w.0
-
       same : coordinator_key_of u ≡ coordinator_key_of id
-      same = key_exact (coordinator_key_of u) (coordinator_key_of id) (equal_of _ is)
+      same = sym (row_key u d now) ∙ only_key (coordinator_row_of u d now).key (coordinator_key_of id) w.0
 
   -- A recovery puts that of its record's transaction ABORTED, where it gives that up.
   pub recover_writes : (rec : Record) (meta : Meta) (p : RecoverPhase) (q : Request) → IsIn catalog rec.key → IfSome (before_record rec) (IsBaseOf rec.key) → recover_request_at rec meta p ≡ Some q → id.0 < 2 ^ 128 → meta.id.0 < 2 ^ 128 → Writes q → (now : ℤ) × (p ≡ phase.Abort now) × (id ≡ meta.id) × (q ≡ row_put meta.id decision.Aborted now)
   recover_writes rec meta phase.Look q is base e fits own w = absurd (read_not (look_of meta.id) refl (as_asked (look_of meta.id) q e w))
   recover_writes rec meta phase.Again q is base e fits own w = absurd (read_not (look_of meta.id) refl (as_asked (look_of meta.id) q e w))
   recover_writes rec meta (phase.Abort now) q is base e fits own w = (now, refl, row_is meta.id decision.Aborted now fits own (as_asked (abort_of meta.id now) q e w), sym (some_is (abort_of meta.id now) q e))
-  recover_writes rec meta (phase.Forward at) q is base e fits own w = absurd (data_not (recover_forward rec meta at) rec.key (ap Some (forward_key rec at)) is (as_asked (recover_forward rec meta at) q e w))
-  recover_writes rec meta phase.Back q is base e fits own w = absurd (data_not (recover_back rec meta) rec.key (undo_key (is_as_found meta) rec.key (before_record rec) base) is (as_asked (recover_back rec meta) q e w))
+  recover_writes rec meta (phase.Forward at) q is base e fits own w = absurd (data_not (recover_forward rec meta at) (rec.key ∷ []) (ap (λ k. k ∷ []) (forward-key rec at)) (is, tt) (as_asked (recover_forward rec meta at) q e w))
+  recover_writes rec meta phase.Back q is base e fits own w = absurd (data_not (recover_back rec meta) (rec.key ∷ []) (undo_keys (is_as_found meta) rec.key (before_record rec) base) (is, tt) (as_asked (recover_back rec meta) q e w))
   recover_writes rec meta phase.Ended q is base e fits own w = none_some q e
 
   -- it is the transaction's own put
@@ -115,11 +114,22 @@ module _ (catalog : List Table) (apart : (k : Key) → IsIn catalog k → is_dat
   decide_writes p decide.Again q e fits own w = absurd (read_not (look_of p.id) refl (as_asked (look_of p.id) q e w))
   decide_writes p decide.Ended q e fits own w = none_some q e
 
+  abbrev WriteIn : Write → Type 0
+  WriteIn w = IsIn catalog w.key × IsRecordIn catalog w.base
+
+  -- the keys of a group
+  group_in : (p : Work) (i : ℕ) (g : List Write) → slice_get (grouped p.writes) i ≡ Some g → AreWritesIn catalog p.writes → AllByRecursion (IsIn catalog) (keys_of_writes g)
+  group_in p i g at inside = each_map (IsIn catalog) (λ (w : Write). w.key) g (by g (group_all p.writes i g at WriteIn inside))
+    where
+      by : (ws : List Write) → AllByRecursion WriteIn ws → AllByRecursion (λ w. IsIn catalog w.key) ws
+      by [] all = tt
+      by (w ∷ ws) all = (all.0.0, by ws all.1)
+
   -- A COMMIT puts its own, with the moment at which it was accepted.
   pub commit_writes : (p : Work) (s : Stage) (q : Request) → pending p s ≡ Some q → AreWritesIn catalog p.writes → AllByRecursion IsWrite p.writes → id.0 < 2 ^ 128 → p.id.0 < 2 ^ 128 → Writes q → OwnPut p q
   commit_writes p (Preparing i) q e inside writes fits own w =
-      let x = mapped_at (prepare_of p.id p.now) p.writes i q e in
-      absurd (data_not (prepare_of p.id p.now x.0) x.0.key (ap Some (prepared-key x.0 p.id p.now)) (each_at (λ (y : Write). IsIn catalog y.key × IsRecordIn catalog y.base) p.writes i x.0 inside x.1).0 (subst Writes (sym x.2) w))
+      let x = mapped_at (prepares_of p.id p.now) (grouped p.writes) i q e in
+      absurd (data_not (prepares_of p.id p.now x.0) (keys_of_writes x.0) (prepare_keys p.id p.now x.0) (group_in p i x.0 x.1 inside) (subst Writes (sym x.2) w))
   commit_writes p (Checking i) q e inside writes fits own w = by (slice_get (checks p) i) refl e
     where
       by : (o : Option Check) → slice_get (checks p) i ≡ o → option_map (λ (c : Check). c.request) o ≡ Some q → OwnPut p q
@@ -127,10 +137,12 @@ module _ (catalog : List Table) (apart : (k : Key) → IsIn catalog k → is_dat
       by (Some c) f k = absurd (read_not c.request (each_at (λ (y : Check). is_read y.request ≡ true) (checks p) i c (checks_read p) f) (as_asked c.request q k w))
   commit_writes p (Deciding d) q e inside writes fits own w = decide_writes p d q e fits own w
   commit_writes p (Forward i) q e inside writes fits own w =
-      let x = mapped_at (forward_of p.id p.now) p.writes i q e in
-      absurd (data_not (forward_of p.id p.now x.0) x.0.key (ap Some (forward_key (prepared_record x.0 p.id p.now) p.now ∙ prepared-key x.0 p.id p.now)) (each_at (λ (y : Write). IsIn catalog y.key × IsRecordIn catalog y.base) p.writes i x.0 inside x.1).0 (subst Writes (sym x.2) w))
+      let x = mapped_at (forwards_of p.id p.now) (grouped p.writes) i q e in
+      absurd (data_not (forwards_of p.id p.now x.0) (keys_of_writes x.0) (forward_keys p.id p.now x.0) (group_in p i x.0 x.1 inside) (subst Writes (sym x.2) w))
   commit_writes p (Stopping a n) q e inside writes fits own w = (row_is p.id decision.Aborted p.now fits own (as_asked (abort_of p.id p.now) q e w), decision.Aborted, sym (some_is (abort_of p.id p.now) q e))
   commit_writes p (Back a n i) q e inside writes fits own w =
-      let x = mapped_at (back_of p.id) p.writes i q e in
-      absurd (data_not (back_of p.id x.0) x.0.key (undo_key (is_as_prepared p.id x.0) x.0.key x.0.base (each_at IsWrite p.writes i x.0 writes x.1).base) (each_at (λ (y : Write). IsIn catalog y.key × IsRecordIn catalog y.base) p.writes i x.0 inside x.1).0 (subst Writes (sym x.2) w))
+      let x = mapped_at (back_of p.id) (in_groups p.writes) i q e in
+      let base = (each_at IsWrite (in_groups p.writes) i x.0 (all_in_groups IsWrite p.writes writes) x.1).base in
+      let there = (each_at WriteIn (in_groups p.writes) i x.0 (all_in_groups WriteIn p.writes inside) x.1).0 in
+      absurd (data_not (back_of p.id x.0) (x.0.key ∷ []) (undo_keys (is_as_prepared p.id x.0) x.0.key x.0.base base) (there, tt) (subst Writes (sym x.2) w))
   commit_writes p (Over a) q e inside writes fits own w = none_some q e

@@ -109,6 +109,7 @@ answered_light ss n (reply.Rows rows) = on_light ss n rows
 answered_light ss n (reply.Found found) = omega arith
 answered_light ss n reply.Applied = omega arith
 answered_light ss n (reply.NotMet found) = omega arith
+answered_light ss n (reply.NotAll place there) = omega arith
 answered_light ss n reply.Fault = omega arith
 answered_light ss n reply.NoMemory = omega arith
 
@@ -133,6 +134,7 @@ removal_light ss n left reply.Applied = on_light ss (n + 1) left
 removal_light ss n left (reply.NotMet found) = on_light ss n left
 removal_light ss n left (reply.Found found) = omega arith
 removal_light ss n left (reply.Rows rows) = omega arith
+removal_light ss n left (reply.NotAll place there) = omega arith
 removal_light ss n left reply.Fault = omega arith
 removal_light ss n left reply.NoMemory = omega arith
 

@@ -318,6 +318,7 @@ module _ (catalog : List Table) (calls : List StoreCall) (m : StoreCall) (older 
   scan_led ss n span (reply.Found found) q is e left = tt
   scan_led ss n span reply.Applied q is e left = tt
   scan_led ss n span (reply.NotMet found) q is e left = tt
+  scan_led ss n span (reply.NotAll place there) q is e left = tt
   scan_led ss n span reply.Fault q is e left = tt
   scan_led ss n span reply.NoMemory q is e left = tt
 
@@ -354,6 +355,7 @@ module _ (catalog : List Table) (calls : List StoreCall) (m : StoreCall) (older 
   removal_led ss n left (reply.NotMet found) e scanned h = on_led ss n left e scanned h
   removal_led ss n left (reply.Found found) e scanned h = tt
   removal_led ss n left (reply.Rows rows) e scanned h = tt
+  removal_led ss n left (reply.NotAll place there) e scanned h = tt
   removal_led ss n left reply.Fault e scanned h = tt
   removal_led ss n left reply.NoMemory e scanned h = tt
 

@@ -186,6 +186,7 @@ module _ (calls : List StoreCall) where
   found_one (access.Scan span) (reply.Found found) images done can rows_found rows are q = absurd can
   found_one a reply.Applied images done can rows_found rows are q = absurd rows_found
   found_one a (reply.NotMet found) images done can rows_found rows are q = absurd rows_found
+  found_one a (reply.NotAll place there) images done can rows_found rows are q = absurd rows_found
   found_one a reply.Fault images done can rows_found rows are q = absurd rows_found
   found_one a reply.NoMemory images done can rows_found rows are q = absurd rows_found
 

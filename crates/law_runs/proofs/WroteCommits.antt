@@ -9,13 +9,13 @@ use Rattle.law_answers.specs.Counts.{ArePaired}
 use Rattle.law_answers.specs.Invariant.{IsAnswered, begun_in, open_after}
 use Rattle.law_answers.proofs.Public.{calls_stay, each_kept, each_left, each_middle, last_or, open_only, since_all, since_more, since_none}
 use Rattle.law_runs.specs.Found.{AllRunAs, AreUnder, is_answered, nothing_found, takes_part}
-use Rattle.law_runs.specs.Written.{PreparesAll, keys_of, written_on_found}
+use Rattle.law_runs.specs.Written.{PreparesAll, groups_of_keys, keys_of, written_on_found}
 use Rattle.law_runs.proofs.Running.{each_taken, finds_stay, goes_on, running, running_of, running_stays, under_was}
 use Rattle.law_runs.proofs.Statements.{none_in}
 
 -- the calls of a COMMIT prepare what statements wrote, under the catalog with which they were accepted
 abbrev pub CommitWrote : List Table → List Event → ℕ → List Executed → TxId → List StoreCall → Type 0
-CommitWrote catalog events c ss id calls = (under : List Table) → AreUnder catalog events under ss → (statements : List (Option Statement)) → AllRunAs ss statements → PreparesAll (keys_of under events c ss statements) id calls
+CommitWrote catalog events c ss id calls = (under : List Table) → AreUnder catalog events under ss → (statements : List (Option Statement)) → AllRunAs ss statements → PreparesAll (groups_of_keys (keys_of under events c ss statements)) id calls
 
 -- A statement is the COMMIT that ends a client's transaction of that number, after these.
 pub record EndsAs (answered : List Executed) (n : ℕ) (body : List Executed) (s : Executed) : Type 0 where
@@ -34,7 +34,7 @@ LastWrote catalog events c answered z = reads_commit z.text ≡ true → open_af
 
 -- a COMMIT without a call
 pub none_wrote : (catalog : List Table) (events : List Event) (c : ℕ) (ss : List Executed) (id : TxId) (calls : List StoreCall) → calls ≡ [] → CommitWrote catalog events c ss id calls
-none_wrote catalog events c ss id calls none under accepted statements read = subst (PreparesAll (keys_of under events c ss statements) id) (sym none) (record { count = 0; prepared = refl; decided = λ m has e. none_in m has })
+none_wrote catalog events c ss id calls none under accepted statements read = subst (PreparesAll (groups_of_keys (keys_of under events c ss statements)) id) (sym none) (record { count = 0; prepared = refl; decided = λ m has e. none_in m has })
 
 -- what was answered stays so
 pub commits_still : (catalog : List Table) (events : List Event) (e : Event) (c : ℕ) (answered : List Executed) → AllByRecursion (IsAnswered catalog events c) answered → CommitsWrote catalog events c answered → CommitsWrote catalog (events ++ e ∷ []) c answered
@@ -45,9 +45,9 @@ commits_still catalog events e c answered all k n body s x under accepted statem
     let ran : AllByRecursion (IsAnswered catalog events c) (running events c body) =
     each_kept (IsAnswered catalog events c) is_answered _ (each_kept (IsAnswered catalog events c) (takes_part events c) _ (each_taken (IsAnswered catalog events c) goes_on body front)) in
     let same : running (events ++ e ∷ []) c body ≡ running events c body = running_stays catalog events e c body front in
-    subst (λ ks. PreparesAll ks (id_of c n) (calls_of (events ++ e ∷ []) c s))
+    subst (λ ks. PreparesAll (groups_of_keys ks) (id_of c n) (calls_of (events ++ e ∷ []) c s))
     (ap (λ fs. written_on_found under fs statements nothing_found []) (sym (finds_stay catalog events e c (running events c body) ran)) ∙ ap (λ ss. keys_of under (events ++ e ∷ []) c ss statements) (sym same))
-    (subst (PreparesAll (keys_of under events c (running events c body) statements) (id_of c n)) (sym (calls_stay c events e s here.given here.is here.answered))
+    (subst (PreparesAll (groups_of_keys (keys_of under events c (running events c body) statements)) (id_of c n)) (sym (calls_stay c events e s here.given here.is here.answered))
     (k n body s x under (under_was catalog events e c under (running events c body) ran (subst (AreUnder catalog (events ++ e ∷ []) under) same accepted)) statements (subst (λ ss. AllRunAs ss statements) same read)))
 
 -- with one statement more

@@ -22,7 +22,7 @@ use Rattle.law_answers.specs.Rolled.{AnsweredWereSeen}
 use Rattle.law_answers.proofs.Public.{each_middle, since_all, take_ends, take_open}
 use Rattle.sdb_client.specs.Execution.{IsExecution, IsPlayable}
 use Rattle.law_runs.specs.Found.{AreUnder, answered_inside, is_answered, takes_part}
-use Rattle.law_runs.specs.Written.{CommitsPrepareWritten, DecisionsFollowPoints, PreparesAll, PreparesAreAsMany, keys_of}
+use Rattle.law_runs.specs.Written.{CommitsPrepareWritten, DecisionsFollowPoints, PreparesAll, PreparesAreAsMany, groups_of_keys, keys_of}
 use Rattle.law_runs.specs.World.{WorldAt, states_of}
 use Rattle.law_runs.proofs.OngoingReads.{NothingMore}
 use Rattle.law_runs.proofs.AfterPoints.{as_many, follows_point}
@@ -30,11 +30,11 @@ use Rattle.law_runs.proofs.Belonging.{execution_belongs}
 use Rattle.law_runs.proofs.FoundRuns.{all_run, execution_runs, wait_so}
 use Rattle.law_runs.proofs.FoundSteps.{SeesIn, SeesRun, answered_of_is}
 use Rattle.law_runs.proofs.OwnPrepares.{execution_own}
+use Rattle.law_runs.proofs.Preparing.{key_groups}
 use Rattle.law_runs.proofs.PreparingCalls.{DoingPrepares, TxnPrepares, WaitPrepares, prepares_kept}
 use Rattle.law_runs.proofs.Running.{goes_on, keys_one, running, running_of}
 use Rattle.law_runs.proofs.Statements.{AllSo, statements_so}
 use Rattle.law_runs.proofs.Steps.{execution_holds}
-use Rattle.law_runs.proofs.Writing.{write_keys}
 use Rattle.law_runs.proofs.WroteCommits.{CommitWrote, CommitsWrote, LastWrote, commits_more}
 
 ---- the COMMIT among the statements of its transaction
@@ -110,7 +110,7 @@ module _ (script : Script) (events : List Event) (playable : IsPlayable script) 
         by_doing t (Some p) (doing.Read b z) o i n a s = clash (sym reads ∙ i.inner.commit)
         by_doing t p (doing.Commit z) o i n a s =
             subst (Wrote y) k.begun
-            (λ other accepted statements read. subst (λ ks. PreparesAll ks (id_of c h.begun) (calls_of events c y)) (s statements read ∙ keys_one catalog events c (running_of events c h.begun k.entries) statements under other a accepted) (subst (λ (id : TxId). PreparesAll (write_keys z.work.writes) id (calls_of events c y)) (i.same ∙ o.id) n.sofar))
+            (λ other accepted statements read. subst (λ ks. PreparesAll (groups_of_keys ks) (id_of c h.begun) (calls_of events c y)) (s statements read ∙ keys_one catalog events c (running_of events c h.begun k.entries) statements under other a accepted) (subst (λ (id : TxId). PreparesAll (key_groups z.work) id (calls_of events c y)) (i.same ∙ o.id) n.sofar))
         by_doing t p doing.Over o i n a s = absurd i
 
         by_txn : (o : Option TxnAt) → DoingByHistory events c h.begun k.entries (Some y) h.plan o → TxnPrepares o (calls_of events c y) → IfSome o (SeesRun catalog under events c (running_of events c h.begun k.entries)) → Wrote y (begun_in k.entries)
@@ -162,12 +162,12 @@ module _ (script : Script) (events : List Event) (playable : IsPlayable script) 
   -- Each COMMIT prepares what was written.
   pub execution_wrote : CommitsPrepareWritten catalog events
   execution_wrote client s id z =
-      subst (λ c. PreparesAll (keys_of z.under events c (answered_inside events id) z.statements) id (calls_of events c s)) z.commit.0
+      subst (λ c. PreparesAll (groups_of_keys (keys_of z.under events c (answered_inside events id) z.statements)) id (calls_of events c s)) z.commit.0
       (commit_wrote id s z.commit.1 z.under z.accepted z.statements z.run)
 
   ---- one that decides
 
-  -- Each COMMIT that decides makes as many prepares as keys were written.
+  -- Each COMMIT that decides prepares as many groups, and puts as many records, as were written.
   pub execution_many : PreparesAreAsMany catalog events
   execution_many client s id m z d =
       let h = execution_wrote client s id z in
@@ -177,5 +177,5 @@ module _ (script : Script) (events : List Event) (playable : IsPlayable script) 
   pub execution_points : AnsweredWereSeen events → DecisionsFollowPoints events
   execution_points seen client s id m d =
       let run = execution_runs script events playable x id in
-      follows_point events (execution_own script events playable x) (execution_belongs script events playable x) seen client s id m d (subst (λ c. Contains (statements_by c events) s) d.commit.0 (commit_said id s d.commit.1)) (keys_of run.0 events client (answered_inside events id) run.2.statements)
+      follows_point events (execution_own script events playable x) (execution_belongs script events playable x) seen client s id m d (subst (λ c. Contains (statements_by c events) s) d.commit.0 (commit_said id s d.commit.1)) (groups_of_keys (keys_of run.0 events client (answered_inside events id) run.2.statements))
       (execution_wrote client s id (record { commit = d.commit; under = run.0; accepted = run.1; statements = run.2.statements; run = run.2.run }))

@@ -13,6 +13,7 @@ use Rattle.sdb_model.specs.Calls.{StoreCall, calls_of, records_observed, records
 use Rattle.sdb_model.specs.Causes.{HasChanged, IsBad, IsBusy, IsChecked, IsCommitOf, IsConflictAtScan, IsCounted, IsIn, IsRebased, IsRejected, IsUnmet, MayPassMost, MeetsMisfit, PutsRow, before, is_select}
 use Rattle.sdb_model.specs.Counted.{IsPassedOver, IsResolved}
 use Rattle.sdb_model.specs.Exec.{table_of}
+use Rattle.sdb_model.specs.InFlight as in_flight
 use Rattle.sdb_model.specs.ReadSet.{ReadItem, read_set_of, reads_rows}
 use Rattle.sdb_model.specs.Sql.{Reads, reads_commit}
 use Rattle.sdb_model.specs.Transactions.{Executed, statements_by}
@@ -72,10 +73,10 @@ pub record HasCommitted (events : List Event) (client : ℕ) (s : Executed) : Ty
   pub puts : PutsRow id decision.Committed put
   pub applied : put.reply ≡ reply.Applied
 
--- No call of it puts its transaction's row COMMITTED.
+-- No call of it puts its transaction's row COMMITTED, alone or with other records.
 abbrev pub HasNotDecided : List Event → ℕ → Executed → Type 0
 HasNotDecided events client s =
-    (id : TxId) (m : StoreCall) → IsCommitOf events client s id → Contains (calls_of events client s) m → PutsRow id decision.Committed m → ⊥
+    (id : TxId) (m : StoreCall) → IsCommitOf events client s id → Contains (calls_of events client s) m → in_flight.PutsRow id decision.Committed m.request → ⊥
 
 -- It is answered Committed, and its put of COMMITTED was applied; or it was out of memory, and has made no such put.
 abbrev pub CommitEnds : List Event → ℕ → Executed → Answer → Type 0

@@ -2,11 +2,12 @@
 use Rattle.std.specs.Prelude.{◌≡◌, ◌≢◌, ◌<◌, ◌^◌, true, false, pos, ℕ, ℤ, List, [], ◌∷◌, ◌++◌, ◌+◌, Some, None}
 use Rattle.law_runs.specs.Types.{Answer, Decision, Event, Insert, Key, Record, Reply, Request, Select, Statement, Table, TxId, Update, Value, Write}
 use Rattle.sdb_types.specs.declared.record.Condition.TheVariants as condition
+use Rattle.sdb_types.specs.declared.record.Put.{Put}
 use Rattle.sdb_types.specs.declared.record.Reply.TheVariants as reply
 use Rattle.sdb_types.specs.declared.record.Request.TheVariants as ask
 use Rattle.sdb_types.specs.declared.record.State.TheVariants as state
 use Rattle.sdb_record.specs.declared.coordinator.Decision.TheVariants as decision
-use Rattle.sdb_record.specs.Coordinator.{is_coordinator_table}
+use Rattle.sdb_record.specs.Coordinator.{coordinator_row_of, is_coordinator_table}
 use Rattle.sdb_record.specs.Meta.{is_in, is_moment, is_transactional}
 use Rattle.sdb_record.specs.Parts.{user_columns}
 use Rattle.sdb_record.specs.Rolls.{is_tombstone, prepared_record}
@@ -60,6 +61,11 @@ prepares_at text w id now = event.Take 1 text None ∷ event.Call 1 [] (ask.PutI
 -- A statement puts a transaction's row by its first call.
 abbrev pub decides_at_once : List ℕ → TxId → Decision → ℤ → List Event
 decides_at_once text id d now = event.Take 1 text None ∷ event.Call 1 [] (row_put id d now) Seen reply.Applied None ∷ []
+
+-- It puts the row by the same call as another record.
+abbrev pub decides_beside : List ℕ → TxId → Decision → ℤ → Put → List Event
+decides_beside text id d now other =
+    event.Take 1 text None ∷ event.Call 1 [] (ask.PutAll (record { rec = coordinator_row_of id d now; condition = condition.Absent } ∷ other ∷ [])) Seen reply.Applied None ∷ []
 
 ---- answers that statements don't give on what they found
 
@@ -185,9 +191,17 @@ pub record CommitText : Type 0 where
   pub write : Write
   pub now : ℤ
 
--- the put of a prepared record of client 1's first transaction, where there is none
+-- a write's prepared record of client 1's first transaction is to be put where there is none
+abbrev pub put_first : Write → ℤ → Put
+put_first w now = record { rec = prepared_record w (id_of 1 1) now; condition = condition.Absent }
+
+-- the put of such a record
 abbrev pub prepare_first : CommitText → Request
 prepare_first t = ask.PutIf (prepared_record t.write (id_of 1 1) t.now) condition.Absent
+
+-- the put of two such records at once
+abbrev pub prepare_two : CommitText → Write → Request
+prepare_two t w = ask.PutAll (put_first t.write t.now ∷ put_first w t.now ∷ [])
 
 -- its put of its row COMMITTED
 abbrev pub decide_first : CommitText → Request
@@ -200,6 +214,10 @@ seen_so q r = event.Call 1 [] q Seen r None
 -- A COMMIT prepares a key that its transaction only read.
 abbrev pub prepares_unwritten : SelectOn → Record → List Value → CommitText → List Event
 prepares_unwritten f r row t = answered_after f.on (ask.Get t.write.key) (reply.Found (Some r)) (answer.Rows (row ∷ [])) ++ event.Take 1 t.text None ∷ seen_so (prepare_first t) reply.Applied ∷ []
+
+-- One prepares another key by the same call as the one that its transaction inserted.
+abbrev pub prepares_another : InsertOn → CommitText → Write → List Event
+prepares_another f t w = answered_after f.on (ask.Get (insert_key f)) (reply.Found None) (answer.Count 1) ++ event.Take 1 t.text None ∷ seen_so (prepare_two t w) reply.Applied ∷ []
 
 -- One decides on COMMITTED and hasn't prepared the row that its transaction inserted.
 abbrev pub decides_unprepared : InsertOn → CommitText → List Event

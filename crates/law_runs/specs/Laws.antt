@@ -12,7 +12,8 @@ use Rattle.sdb_model.specs.declared.answer.Answer.TheVariants as answer
 use Rattle.sdb_model.specs.Follows.{Follows}
 use Rattle.sdb_model.specs.ReadSet.{reads_rows}
 use Rattle.sdb_model.specs.Sql.{reads_begin, reads_commit, reads_rollback, reads_vacuum}
-use Rattle.sdb_model.specs.Calls.{StoreCall, calls_after, calls_by, calls_of, clock_at, is_of_row, is_read, put_by, records_read}
+use Rattle.sdb_model.specs.Calls.{StoreCall, calls_after, calls_by, calls_of, clock_at, is_read, records_read}
+use Rattle.sdb_model.specs.Requests.{keys_asked, records_put}
 use Rattle.sdb_model.specs.Causes.{IsCommitOf}
 use Rattle.sdb_model.specs.Transactions.{Executed, prepares, statements_by}
 use Rattle.law_clients.specs.Invariant.{RunInvariant}
@@ -62,13 +63,13 @@ BusyIsOfReads events =
     (client : ℕ) (s : Executed) (key : Key) (id : TxId) (at : ℤ) → Contains (statements_by client events) s
     → s.answer ≡ Some (answer.Busy key id at) → IsOfRead s.text
 
--- A call of a statement puts a record, and prepares for a transaction with it.
+-- A call of a statement prepares for a transaction, and this is a record that it puts.
 pub record PreparedBy (events : List Event) (client : ℕ) (s : Executed) (m : StoreCall) (id : TxId) (r : Record) : Type 0 where
   pub among : Contains (statements_by client events) s
   pub call : Contains (calls_of events client s) m
   pub fits : id.0 < 2 ^ 128
   pub is : prepares id m.request ≡ true
-  pub puts : put_by m.request ≡ Some r
+  pub puts : Contains (records_put m.request) r
 
 -- The statement is the COMMIT of that transaction, and the record has the moment that the clock showed when this was accepted.
 pub record IsOwnPrepare (events : List Event) (client : ℕ) (s : Executed) (id : TxId) (r : Record) : Type 0 where
@@ -94,9 +95,9 @@ AreFewReads text calls =
 abbrev pub ReadsAreFew : List Event → Type 0
 ReadsAreFew events = (client : ℕ) (s : Executed) → Contains (statements_by client events) s → AreFewReads s.text (calls_of events client s)
 
--- A call writes the coordinator's row of a transaction.
+-- A call writes the coordinator's row of a transaction, alone or with other records.
 abbrev pub WritesRow : TxId → StoreCall → Type 0
-WritesRow id m = (is_of_row id m.request ≡ true) × (is_read m.request ≡ false)
+WritesRow id m = Contains (keys_asked m.request) (coordinator_key_of id) × (is_read m.request ≡ false)
 
 -- the put of that row with a decision and a moment, on condition that there is none
 abbrev pub row_put : TxId → Decision → ℤ → Request

@@ -23,6 +23,7 @@ span_asked (ask.Scan span) = Some span
 span_asked (ask.Get key) = None
 span_asked (ask.PutIf rec condition) = None
 span_asked (ask.DeleteIf key condition) = None
+span_asked (ask.PutAll batch) = None
 
 -- the spans that calls scan, in order
 abbrev pub spans_asked : List StoreCall → List Span

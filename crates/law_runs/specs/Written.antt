@@ -1,14 +1,16 @@
 -- The keys that a transaction's statements write, and which of them its COMMIT prepares.
-use Rattle.std.specs.Prelude.{◌≡◌, ◌<◌, ◌≤◌, ◌^◌, true, ℕ, ℤ, List, [], ◌∷◌, length, take, filter, Option, Some, None, Contains}
-use Rattle.std.specs.List.{filter_map}
-use Rattle.law_runs.specs.Types.{Event, Key, Record, Statement, Table, TxId}
+use Rattle.std.specs.Prelude.{◌≡◌, ◌<◌, ◌≤◌, ◌^◌, true, ℕ, ℤ, List, [], ◌∷◌, length, map, take, filter, Option, Some, None, Contains}
+use Rattle.law_runs.specs.Types.{Event, Key, Record, Statement, Table, TxId, Write}
 use Rattle.sdb_types.specs.declared.record.Reply.TheVariants as reply
 use Rattle.sdb_types.specs.Replies.{is_applied}
 use Rattle.sdb_record.specs.declared.coordinator.Decision.TheVariants as decision
 use Rattle.sdb_model.specs.declared.event.How.TheVariants.{Seen}
-use Rattle.sdb_model.specs.Calls.{StoreCall, calls_before, calls_of, key_asked}
+use Rattle.sdb_record.specs.Groups.{grouped, keys_of_writes}
+use Rattle.sdb_record.specs.declared.write.Change.TheVariants as change
+use Rattle.sdb_model.specs.Calls.{StoreCall, calls_before, calls_of}
+use Rattle.sdb_model.specs.Requests.{keys_asked}
 use Rattle.sdb_model.specs.Causes.{IsCommitOf}
-use Rattle.sdb_model.specs.Counted.{prepares_in}
+use Rattle.sdb_model.specs.Counted.{prepares_in, puts_prepared}
 use Rattle.sdb_model.specs.Exec.{Tables}
 use Rattle.sdb_model.specs.Transactions.{Executed, point, prepares}
 use Rattle.law_clients.specs.Keys.{keys_written, with_keys}
@@ -36,24 +38,32 @@ keys_of catalog events client ss statements = written_on_found catalog (finds ev
 
 ---- keys that are prepared
 
--- the keys for which calls prepare, in the order of the calls
-abbrev pub keys_prepared : TxId → List StoreCall → List Key
-keys_prepared id calls = filter_map (λ m. key_asked m.request) (prepares_in id calls)
+-- a write of a key, which makes it absent
+abbrev pub write_of_key : Key → Write
+write_of_key key = record { key = key; base = None; change = change.Delete }
+
+-- keys in groups, as writes of them are grouped
+abbrev pub groups_of_keys : List Key → List (List Key)
+groups_of_keys keys = map keys_of_writes (grouped (map write_of_key keys))
+
+-- the groups of keys for which calls prepare: those of each prepare, in the order of the calls
+abbrev pub groups_prepared : TxId → List StoreCall → List (List Key)
+groups_prepared id calls = map (λ m. keys_asked m.request) (prepares_in id calls)
 
 -- those of the prepares that were applied
-abbrev pub keys_applied : TxId → List StoreCall → List Key
-keys_applied id calls = keys_prepared id (filter (λ m. is_applied m.reply) calls)
+abbrev pub groups_applied : TxId → List StoreCall → List (List Key)
+groups_applied id calls = groups_prepared id (filter (λ m. is_applied m.reply) calls)
 
 -- a call puts a transaction's row COMMITTED, where there is none
 abbrev pub PutsCommitted : TxId → StoreCall → Type 0
 PutsCommitted id m = (now : ℤ) × (m.request ≡ row_put id decision.Committed now)
 
--- The calls of a COMMIT prepare these keys, each once, in their order, from the first; and all of them were applied before a call that puts the
--- transaction's row COMMITTED.
-pub record PreparesAll (keys : List Key) (id : TxId) (calls : List StoreCall) : Type 0 where
+-- The calls of a COMMIT prepare these groups of keys, one in each call, each once, in their order, from the first; and all of them were applied
+-- before a call that puts the transaction's row COMMITTED.
+pub record PreparesAll (groups : List (List Key)) (id : TxId) (calls : List StoreCall) : Type 0 where
   pub count : ℕ
-  pub prepared : keys_prepared id calls ≡ take count keys
-  pub decided : (m : StoreCall) → Contains calls m → PutsCommitted id m → keys_applied id (calls_before m.at calls) ≡ keys
+  pub prepared : groups_prepared id calls ≡ take count groups
+  pub decided : (m : StoreCall) → Contains calls m → PutsCommitted id m → groups_applied id (calls_before m.at calls) ≡ groups
 
 -- A COMMIT of a transaction, and what its answered statements run as, and under which catalog (`RunsOnFound` has them).
 pub record CommitOf (catalog : List Table) (events : List Event) (client : ℕ) (s : Executed) (id : TxId) : Type 0 where
@@ -68,11 +78,11 @@ abbrev pub written_before : (catalog : List Table) (events : List Event) (client
     → CommitOf catalog events client s id → List Key
 written_before catalog events client s id x = keys_of x.under events client (answered_inside events id) x.statements
 
--- Each COMMIT, answered or not, prepares the keys that the statements of its transaction wrote.
+-- Each COMMIT, answered or not, prepares the keys that the statements of its transaction wrote, in groups.
 abbrev pub CommitsPrepareWritten : List Table → List Event → Type 0
 CommitsPrepareWritten catalog events =
     (client : ℕ) (s : Executed) (id : TxId) (x : CommitOf catalog events client s id)
-    → PreparesAll (written_before catalog events client s id x) id (calls_of events client s)
+    → PreparesAll (groups_of_keys (written_before catalog events client s id x)) id (calls_of events client s)
 
 ---- one that decides
 
@@ -83,11 +93,16 @@ pub record Decides (events : List Event) (client : ℕ) (s : Executed) (id : TxI
   pub call : Contains (calls_of events client s) m
   pub puts : PutsCommitted id m
 
--- Such a COMMIT makes as many prepares as keys were written.
+-- Calls prepare as many groups as keys are in, and put as many records for them as there are keys.
+pub record AreAsMany (keys : List Key) (id : TxId) (calls : List StoreCall) : Type 0 where
+  pub groups : length (prepares_in id calls) ≡ length (groups_of_keys keys)
+  pub records : puts_prepared id calls ≡ length keys
+
+-- Such a COMMIT's do so for the keys that were written.
 abbrev pub PreparesAreAsMany : List Table → List Event → Type 0
 PreparesAreAsMany catalog events =
     (client : ℕ) (s : Executed) (id : TxId) (m : StoreCall) (x : CommitOf catalog events client s id) → Decides events client s id m
-    → length (prepares_in id (calls_of events client s)) ≡ length (written_before catalog events client s id x)
+    → AreAsMany (written_before catalog events client s id x) id (calls_of events client s)
 
 -- a call was seen and applied, at a transaction's point or before it
 abbrev pub IsAppliedBy : List Event → TxId → StoreCall → Type 0

@@ -5,10 +5,11 @@ ghost use Rattle.sdb_model.specs.Counted.{AreResolved};
 ghost use Rattle.law_runs.specs.DirtyReads.{IsReader};
 ghost use Rattle.law_runs.specs.Traces.{IsApart, ExecutedAtKey, AnswersAsRead, HasNoDirtyReads, IsExplainedTrace, HasTransactional, Traced, WasCommittedAt, WasFoundAt, WereDecidedAt};
 
-/// Where a statement's calls showed a row at a key of a table, and the decision on each record that they found there unresolved, that
-/// row was the one of the committed image at a moment between the statement's Take and its last event.
+/// Where no table of the catalog is the coordinator's, and a statement's calls showed a row at a key of a table, and the decision on each
+/// record that they found there unresolved, that row was the one of the committed image at a moment between the statement's Take and its
+/// last event.
 pub fn found_rows_are_committed()
-    ensures { (t : Traced) (x : ExecutedAtKey t) (row : Option (List Pair)) → IsExplainedTrace t → WereDecidedAt x → WasFoundAt x row → WasCommittedAt x row }
+    ensures { (t : Traced) (x : ExecutedAtKey t) (row : Option (List Pair)) → IsApart t → IsExplainedTrace t → WereDecidedAt x → WasFoundAt x row → WasCommittedAt x row }
 {}
 
 /// Where each statement whose read finished had each unresolved record rolled that was found, the calls of such a statement that is no

@@ -3,12 +3,12 @@
 ghost use Rattle.std.specs.Prelude.{◌≡◌, true, ◌<◌, ◌^◌, All, IfSome};
 ghost use Rattle.std.specs.Str.{IsUtf8};
 ghost use Rattle.sdb_types.specs.Fits.{record_fits};
-ghost use Rattle.sdb_model.specs.Plain.{IsPlainPoint, altered_is_plain, condition_is_plain, id_is_plain, refusal_is_plain, reply_is_plain, request_is_plain, span_is_plain, table_is_plain, values_are_plain};
+ghost use Rattle.sdb_model.specs.Plain.{IsPlainPoint, altered_is_plain, condition_is_plain, id_is_plain, put_is_plain, refusal_is_plain, reply_is_plain, request_is_plain, span_is_plain, table_is_plain, values_are_plain};
 ghost use Rattle.law_runs.specs.Facts.{answer_fits, dump_fits, event_fits, given_fits, outcome_fits};
 
 use sdb_model::{Altered, Answer, Event, Outcome, Point, Refusal, TableDump};
 use sdb_types::{
-    Condition, Record, Reply, Request, Span, TxId, Txt, Values, key_facts, name_facts,
+    Condition, Put, Record, Reply, Request, Span, TxId, Txt, Values, key_facts, name_facts,
     record_facts, table_facts, values_facts,
 };
 
@@ -58,6 +58,21 @@ fn condition_facts(condition: Condition)
     }
 }
 
+fn put_facts(put: &Put)
+    ensures { put_is_plain put.now }
+{
+    record_facts(&put.rec);
+    condition_facts(put.condition);
+}
+
+fn puts_facts(puts: &[Put])
+    ensures { All put_is_plain puts.now }
+{
+    for put in puts {
+        put_facts(put);
+    }
+}
+
 fn request_facts(request: &Request)
     ensures { request_is_plain request.now }
 {
@@ -72,6 +87,10 @@ fn request_facts(request: &Request)
             key_facts(key);
             condition_facts(*condition);
         }
+        Request::PutAll(batch) => {
+            let _length = batch.len();
+            puts_facts(batch.as_slice());
+        }
     }
 }
 
@@ -80,6 +99,10 @@ fn reply_facts(reply: &Reply)
 {
     match reply {
         Reply::Found(found) | Reply::NotMet(found) => found_facts(found),
+        Reply::NotAll(place, found) => {
+            let _place = *place;
+            found_facts(found);
+        }
         Reply::Rows(rows) => {
             let _length = rows.len();
             records_facts(rows.as_slice());

@@ -1,6 +1,7 @@
 //! Laws of executions, whatever the stores reply.
-ghost use Rattle.std.specs.Prelude.{[], ◌∷◌, ◌≡◌, ◌≢◌, List, Some, pos, take, true, ℕ, ℤ};
+ghost use Rattle.std.specs.Prelude.{[], ◌∷◌, ◌≡◌, ◌≢◌, ◌<◌, ◌^◌, List, Some, pos, take, true, ℕ, ℤ};
 ghost use Rattle.law_runs.specs.Types.{Decision, Key, Record, Reply, Request, Table, TxId, Value, Write};
+ghost use Rattle.sdb_types.specs.declared.record.Put.{Put};
 ghost use Rattle.sdb_model.specs.Sql.{reads_begin, reads_commit, reads_vacuum};
 ghost use Rattle.sdb_client.specs.Execution.{IsExecution};
 ghost use Rattle.sdb_model.specs.Causes.{AreCaused};
@@ -8,7 +9,7 @@ ghost use Rattle.sdb_model.specs.Counted.{AreCounted, AreResolved};
 ghost use Rattle.law_protocol.specs.Spread.{AreAbout};
 ghost use Rattle.law_runs.specs.CommitPaths.{CommitsArePaths, OpenCommitsArePaths};
 ghost use Rattle.law_runs.specs.Complete.{RecoveriesComplete, ResolvedAreNotBusy, SeenAreServed, StatementsComplete, UncontendedCommitsComplete};
-ghost use Rattle.law_runs.specs.Forged.{MeetsMalformed, answers_bad, answers_bad_later, CommitText, EmptyTransaction, FindsMisfit, FindsRow, FindsUnresolved, InsertOn, IsOfOther, IsOtherMoment, SelectOn, IsCommittedRow, UpdateOn, busy_at_once, counted_at_once, counts_over, counts_twice, counts_unread, decides_at_once, decides_early, decides_unapplied, decides_unprepared, duplicates_none, ends_unfinished, faults_at_once, leaves_out, prepares_at, prepares_unwritten, reads_again, reads_and_is_done, reads_for_rolls, rolls_unprepared, answers_rows, answers_two, answers_unread, answers_unrolled};
+ghost use Rattle.law_runs.specs.Forged.{MeetsMalformed, answers_bad, answers_bad_later, CommitText, EmptyTransaction, FindsMisfit, FindsRow, FindsUnresolved, InsertOn, IsOfOther, IsOtherMoment, SelectOn, IsCommittedRow, UpdateOn, busy_at_once, counted_at_once, counts_over, counts_twice, counts_unread, decides_at_once, decides_beside, decides_early, decides_unapplied, decides_unprepared, duplicates_none, ends_unfinished, faults_at_once, leaves_out, prepares_another, prepares_at, prepares_unwritten, reads_again, reads_and_is_done, reads_for_rolls, rolls_unprepared, answers_rows, answers_two, answers_unread, answers_unrolled};
 ghost use Rattle.law_runs.specs.Found.{ReadsAreNew, RunsOnFound};
 ghost use Rattle.law_runs.specs.Laws.{BusyIsOfReads, CallsAreOfStatements, DecisionsAreDue, ExecutionOf, FollowsMoves, RulesHold, PreparesAreOwn, ReadsAreFew};
 ghost use Rattle.law_runs.specs.Malformed.{MalformedAreAnswered, MalformedEndAtOnce, VacuumsMeetMalformed};
@@ -52,7 +53,7 @@ pub fn busy_is_of_reads()
     ensures { (x : ExecutionOf) → BusyIsOfReads x.events }
 {}
 
-/// A call that prepares for a transaction is one of its own COMMIT, and the record that it puts has the moment that the clock showed when that
+/// A call that prepares for a transaction is one of its own COMMIT, and each record that it puts has the moment that the clock showed when that
 /// COMMIT was accepted. So a record expires 15 seconds after its transaction's COMMIT was accepted.
 pub fn prepares_are_own()
     ensures { (x : ExecutionOf) → PreparesAreOwn x.events }
@@ -92,19 +93,20 @@ pub fn reads_are_new()
     ensures { (x : ExecutionOf) → ReadsAreNew x.events }
 {}
 
-/// Each COMMIT prepares the keys that the statements of its transaction wrote on what they found: each once, in the order in which they were
-/// first written, from the first. Before it puts its transaction's row COMMITTED, the prepares of all of them were applied: so it makes as many
-/// prepares as keys were written.
+/// Each COMMIT prepares the keys that the statements of its transaction wrote on what they found, in groups: as these are made of the keys in
+/// the order in which they were first written, one group by each call, each once, from the first. Before it puts its transaction's row
+/// COMMITTED, the prepares of all groups were applied: so it makes as many prepares as there are groups, and these put as many records as keys
+/// were written.
 pub fn commits_prepare_written()
     ensures written { (x : ExecutionOf) → CommitsPrepareWritten x.script.catalog x.events }
     ensures counted { (x : ExecutionOf) → PreparesAreAsMany x.script.catalog x.events }
 {}
 
 /// A COMMIT that is answered made the calls of a COMMIT of its transaction over the replies that it got, and ends as that does. Committed, it
-/// rolls forward each write, once and in order, and none back; Conflict, Expired, Faulted or out of memory, it rolls back, once and in order, each
-/// write whose prepare was applied or faulted, and no other, or none where its put of ABORTED failed; with any other answer it rolls nothing. Or it
-/// was answered as it was accepted, that it was out of memory or that no transaction is open, and has made no call. One that waits has made
-/// the first calls of such a COMMIT.
+/// rolls forward each group of its writes, once and in order, and none back; Conflict, Expired, Faulted or out of memory, it rolls back, once and
+/// in the order of the groups, each write of those whose prepare was applied or faulted, and no other, or none where its put of ABORTED failed;
+/// with any other answer it rolls nothing. Or it was answered as it was accepted, that it was out of memory or that no transaction is open, and
+/// has made no call. One that waits has made the first calls of such a COMMIT.
 pub fn commits_are_paths()
     ensures answered { (x : ExecutionOf) → CommitsArePaths x.events }
     ensures waiting { (x : ExecutionOf) → OpenCommitsArePaths x.events }
@@ -171,14 +173,16 @@ pub fn records_are_sound_at_every_moment()
 
 /// Events that no execution has, and the law that each of them breaks: a COMMIT that is answered Busy, a statement that is and has read
 /// nothing, a COMMIT that is answered Faulted and has made no call, a VACUUM of a table that counts without a scan, a BEGIN that reads, a
-/// prepare with another moment than the clock showed, and a decision on another's transaction by a first call; and statements of a transaction:
+/// prepare with another moment than the clock showed, a decision on another's transaction by a first call, and a decision by one call with
+/// another record; and statements of a transaction:
 /// a SELECT that shows a row without a read, leaves out the row that it found, is answered with rows over one that doesn't fit its table, shows a
 /// row of a record that it found and didn't roll, or shows two rows where its LIMIT is 1, an UPDATE that counts rows without a read, an INSERT
 /// that is counted over a row that it found or over its transaction's own row, a Duplicate where nothing was found, an INSERT that reads its
 /// key again, and a SELECT that finds a malformed record, and is answered with rows, BadRecord of another key, or BadRecord after another call;
-/// and a COMMIT that prepares a key that its transaction only read, or puts its row COMMITTED without an applied prepare of what its
-/// transaction inserted: without any, after one that faulted, or before one; one that is answered Committed and hasn't rolled forward what it
-/// prepared, or has made a get in place of that, and one that is answered Conflict and rolls back what it hasn't prepared.
+/// and a COMMIT that prepares a key that its transaction only read, or another key by one call with the one that it inserted, or puts its row
+/// COMMITTED without an applied prepare of what its transaction inserted: without any, after one that faulted, or before one; one that is
+/// answered Committed and hasn't rolled forward what it prepared, or has made a get in place of that, and one that is answered Conflict and rolls
+/// back what it hasn't prepared.
 pub fn forged_events_are_refused()
     ensures busy { (text : List ℕ) (key : Key) (id : TxId) (at : ℤ) → reads_commit text ≡ true → BusyIsOfReads (busy_at_once text key id at) → ⊥ }
     ensures idle_busy { (text : List ℕ) (key : Key) (id : TxId) (at : ℤ) → ResolvedAreNotBusy (busy_at_once text key id at) → ⊥ }
@@ -187,6 +191,7 @@ pub fn forged_events_are_refused()
     ensures begun { (text : List ℕ) (key : Key) → reads_begin text ≡ true → ReadsAreFew (reads_and_is_done text key) → ⊥ }
     ensures prepared { (text : List ℕ) (w : Write) (id : TxId) (now : ℤ) → IsOtherMoment id now → PreparesAreOwn (prepares_at text w id now) → ⊥ }
     ensures decided { (text : List ℕ) (id : TxId) (d : Decision) (now : ℤ) → IsOfOther id → DecisionsAreDue (decides_at_once text id d now) → ⊥ }
+    ensures decided_beside { (text : List ℕ) (id : TxId) (d : Decision) (now : ℤ) (other : Put) → id.0 < 2 ^ 128 → DecisionsAreDue (decides_beside text id d now other) → ⊥ }
     ensures invented { (f : SelectOn) (row : List Value) (rows : List (List Value)) → RunsOnFound f.on.catalog (answers_unread f row rows) → ⊥ }
     ensures left_out { (f : SelectOn) (key : Key) (r : Record) → FindsRow f key r → RunsOnFound f.on.catalog (leaves_out f key r) → ⊥ }
     ensures misfit { (f : SelectOn) (key : Key) (r : Record) (rows : List (List Value)) → FindsMisfit f key r → RunsOnFound f.on.catalog (answers_rows f key r rows) → ⊥ }
@@ -198,6 +203,7 @@ pub fn forged_events_are_refused()
     ensures no_duplicate { (f : InsertOn) → RunsOnFound f.on.catalog (duplicates_none f) → ⊥ }
     ensures read_again { (f : InsertOn) → ReadsAreNew (reads_again f) → ⊥ }
     ensures unwritten { (f : SelectOn) (r : Record) (row : List Value) (t : CommitText) → CommitsPrepareWritten f.on.catalog (prepares_unwritten f r row t) → ⊥ }
+    ensures joined { (f : InsertOn) (t : CommitText) (w : Write) → CommitsPrepareWritten f.on.catalog (prepares_another f t w) → ⊥ }
     ensures unprepared { (f : InsertOn) (t : CommitText) → CommitsPrepareWritten f.on.catalog (decides_unprepared f t) → ⊥ }
     ensures unapplied { (f : InsertOn) (t : CommitText) → CommitsPrepareWritten f.on.catalog (decides_unapplied f t) → ⊥ }
     ensures malformed { (f : SelectOn) (key : Key) (r : Record) (rows : List (List Value)) → MeetsMalformed f key r → MalformedAreAnswered (answers_rows f key r rows) → ⊥ }
