@@ -6,7 +6,7 @@ ghost use Rattle.std.specs.Prelude.{◌≤ℤ◌, ◌^◌, ℤ, pos, None};
 use sdb_sqlite::Kept;
 use sdb_store::Store;
 use sdb_types::{
-    Clock, Condition, Failed, Ids, Key, Record, Reply, Sink, SinkRefused, Source, Span,
+    Batch, Clock, Condition, Failed, Ids, Key, Record, Reply, Sink, SinkRefused, Source, Span,
 };
 use sqlite::FileStore;
 use sqlite_std_file::File;
@@ -177,5 +177,9 @@ impl Store for InFile {
 
     fn delete_if(&mut self, key: &Key, condition: &Condition) -> Reply {
         self.kept.delete_if(key, condition)
+    }
+
+    fn put_all(&mut self, batch: &Batch) -> Reply {
+        self.kept.put_all(batch)
     }
 }

@@ -105,7 +105,7 @@ unmet_less before old new less ws key h =
       mid = h.mid;
       held = λ i t. h.held i (less i t);
       found = h.found;
-      called = record { before = c.before; now = c.now; stood = c.stood; rest = c.rest; name = c.name; performed = λ t. c.performed (less h.write.at t); lawful = c.lawful; counted = c.counted; cause = c.cause; where_known = λ i t. t };
+      called = record { formed = c.formed; before = c.before; now = c.now; stood = c.stood; rest = c.rest; name = c.name; performed = λ t. c.performed (less h.write.at t); lawful = c.lawful; counted = c.counted; cause = c.cause; where_known = λ i t. t };
       fails = h.fails;
       key = h.key;
     }

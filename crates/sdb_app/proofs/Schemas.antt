@@ -21,6 +21,7 @@ use Rattle.sdb_app.proofs.Headline.{begun_with}
 -- One call, on stores that are the same, of which no fewer had known contents.
 pub called_before : (q : Request) (r : Reply) (before mid : Attached) (new : List Counted) → mid.views ≡ before.views → ((at : ℕ) → before.known at → mid.known at) → Called q r mid new → Called q r before new
 called_before q r before mid new same where_known h = record {
+  formed = h.formed;
   before = h.before;
   now = h.now;
   stood = ap (λ (ss : List Counted). slice_get ss 0) (sym same) ∙ h.stood;

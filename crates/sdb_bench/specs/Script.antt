@@ -62,7 +62,7 @@ step_drawn x i = move.Act (act.Step (2 + draw x i 8))
 
 -- all steps of the first client, eight for each transaction, and the rest
 abbrev pub bench_moves : ℕ → List Move
-bench_moves n = move.Repeat 1 259 ∷ map (step_drawn (state_after n (4 * n))) (numbers_below (8 * n)) ++ move.Rest ∷ []
+bench_moves n = move.Repeat 1 163 ∷ map (step_drawn (state_after n (4 * n))) (numbers_below (8 * n)) ++ move.Rest ∷ []
 
 ---- the script
 

@@ -163,7 +163,7 @@ fn bench_moves(alloc: Global, draws: &mut Draws, n: u32) -> Result<Moves, NoMemo
     ensures { IfOk result (λ moves. moves ≡ bench_moves_lem n) }
 {
     let mut moves = Moves::new(alloc);
-    moves.push(Move::Repeat(1, 259))?;
+    moves.push(Move::Repeat(1, 163))?;
     put_steps(&mut moves, draws, 8 * n)?;
     moves.push(Move::Rest)?;
     Ok(moves)

@@ -6,40 +6,21 @@ use Rattle.std.specs.Option.{option_and_then}
 use Rattle.std.specs.Ordering.{is_eq, is_lt}
 use Rattle.std.specs.Result.{result_ok}
 use Rattle.std.specs.Cmp.{tied_itself}
-use Rattle.sdb_contents.specs.Types.{Decided, Decision, Key, MetaRefused, Ordering, Record, TxId, Value}
+use Rattle.sdb_contents.specs.Types.{Decided, Decision, Key, MetaRefused, Ordering, Record, TxId}
 use Rattle.std.specs.declared.cmp.Ordering.TheVariants.{Less, Equal, Greater}
 use Rattle.std.proofs.lemmas.Bool.Decides.{nat_tests}
 use Rattle.std.proofs.lemmas.List.Elements.{filter_map-append}
-use Rattle.sdb_types.specs.declared.value.Value.TheVariants as value
 use Rattle.sdb_types.specs.Contents.{rise, starts_after, record_among}
 use Rattle.sdb_types.specs.Order.{key_cmp, same_key}
-use Rattle.sdb_types.specs.TxId.{id_text}
 use Rattle.sdb_types.proofs.Public.{and_both, and_first, and_second, by_test, clash as true_false, key_total, none_some, same_key_exact, same_key_is, same_key_self, same_key_turned, some_is}
 use Rattle.sdb_record.specs.declared.coordinator.Decision.TheVariants as decision
-use Rattle.sdb_record.specs.Coordinator.{coordinator_key_of, decision_in, id_in_values, id_of_key, if_empty, is_coordinator_table}
+use Rattle.sdb_record.specs.Coordinator.{coordinator_key_of, decision_in, id_of_key}
 use Rattle.sdb_record.specs.Refused.{Refuses as MetaRefuses}
 use Rattle.sdb_record.specs.declared.meta.MetaRefused.TheVariants.{BadMeta, NoMemory}
-use Rattle.sdb_record.proofs.Public.{id_of_text-is, key-of-id}
+use Rattle.sdb_record.proofs.Public.{key-of-id}
+use Rattle.law_protocol.proofs.Public.{row_key_is}
 use Rattle.sdb_contents.specs.Decided.{committed_one, decision_among, is_decided, recorded_among, recorded_by, recorded_in}
 use Rattle.sdb_contents.proofs.DumpLists.{err_is, first_or_later, here_in, kept_from, kept_in, later_in, none_in, pairs_more}
-use Rattle.sdb_contents.proofs.RunTables.{coordinator_is}
-
----- the transaction of a row
-
-values_are : (vs : List Value) (id : TxId) → id_in_values vs ≡ Some id → (id.0 < 2 ^ 128) × (vs ≡ value.Text (id_text id.0) ∷ [])
-values_are (value.Text text ∷ []) id h = let w = id_of_text-is text id h in (w.0, ap (λ (t : List ℕ). value.Text t ∷ []) w.1)
-values_are _ id h = absurd (none_some id h)
-
-key_with : (key : Key) (id : TxId) (b : Bool) (cs : List Value) → is_coordinator_table key.table ≡ b → key.clustering ≡ cs → cond b (if_empty cs (id_in_values key.partition)) None ≡ Some id → (id.0 < 2 ^ 128) × (key ≡ coordinator_key_of id)
-unfolding coordinator_key_of
-key_with key id true [] t c e = let w = values_are key.partition id e in (w.0, let table = coordinator_is key.table t in λ i. record { table = table i; partition = w.1 i; clustering = c i })
-key_with key id true (v ∷ vs) t c e = absurd (none_some id e)
-key_with key id false cs t c e = absurd (none_some id e)
-
--- a key that names a transaction is that of its row
-pub key_of : (key : Key) (id : TxId) → id_of_key key ≡ Some id → (id.0 < 2 ^ 128) × (key ≡ coordinator_key_of id)
-unfolding id_of_key
-key_of key id h = key_with key id (is_coordinator_table key.table) key.clustering refl refl h
 
 ---- rows in order
 
@@ -123,7 +104,7 @@ pub decided_more : (before after : TxId → Option Decided) (xs : List Record) (
 decided_more before after xs r id d up of says set was other small =
     by_test (other.0 == id.0)
     (λ t. let e : other.0 ≡ id.0 = grind (arith, nat_tests) in
-    let key : coordinator_key_of other ≡ r.key = ap coordinator_key_of (same_id other id e) ∙ sym (key_of r.key id of).1 in
+    let key : coordinator_key_of other ≡ r.key = ap coordinator_key_of (same_id other id e) ∙ sym (row_key_is r.key id of).1 in
     set other ∙ ap (λ (b : Bool). cond b (Some d) (before other)) t
     ∙ sym (ap (λ (k : Key). option_and_then (λ row. result_ok (decision_in row)) (record_among (xs ++ r ∷ []) k)) key
     ∙ ap (option_and_then (λ row. result_ok (decision_in row))) (found_last xs r (none_before xs r up)) ∙ ap result_ok says))
@@ -202,7 +183,7 @@ pub recorded_has : (rs : List Record) → rise rs ≡ true → (id : TxId) → C
 recorded_has rs up id h =
     let from = kept_from recorded_in rs id h in
     let says = recorded_says from.0 id from.2 in
-    let found : record_among rs (coordinator_key_of id) ≡ Some from.0 = ap (record_among rs) (sym (key_of from.0.key id says.0).1) ∙ row_found rs from.0 up from.1 in
+    let found : record_among rs (coordinator_key_of id) ≡ Some from.0 = ap (record_among rs) (sym (row_key_is from.0.key id says.0).1) ∙ row_found rs from.0 up from.1 in
     subst (λ (o : Option Record). IsSomeAnd (option_and_then (λ row. result_ok (decision_in row)) o) IsCommitted) (sym found) says.1
 
 pub recorded_all : (rs : List Record) (id : TxId) → id.0 < 2 ^ 128 → IsSomeAnd (decision_among rs id) IsCommitted → Contains (recorded_among rs) id
@@ -215,13 +196,13 @@ recorded_all rs id small h = by (record_among rs (coordinator_key_of id)) refl h
         kept_in recorded_in rs r id there.0 (recorded_gives r id (ap id_of_key there.1 ∙ key-of-id id small) k)
 
 pub recorded_small : (rs : List Record) (id : TxId) → Contains (recorded_among rs) id → id.0 < 2 ^ 128
-recorded_small rs id h = let from = kept_from recorded_in rs id h in (key_of from.0.key id (recorded_says from.0 id from.2).0).0
+recorded_small rs id h = let from = kept_from recorded_in rs id h in (row_key_is from.0.key id (recorded_says from.0 id from.2).0).0
 
 not_again : (r : Record) (rs : List Record) (id other : TxId) → rise (r ∷ rs) ≡ true → recorded_in r ≡ Some id → Contains (recorded_among rs) other → id ≢ other
 not_again r rs id other up here h same =
     let from = kept_from recorded_in rs other h in
     let above : is_lt (key_cmp r.key from.0.key) ≡ true = row_above r.key rs from.0 (and_first _ _ up) (and_second _ _ up) from.1 in
-    let key : from.0.key ≡ r.key = (key_of from.0.key other (recorded_says from.0 other from.2).0).1 ∙ ap coordinator_key_of (sym same) ∙ sym (key_of r.key id (recorded_says r id here).0).1 in
+    let key : from.0.key ≡ r.key = (row_key_is from.0.key other (recorded_says from.0 other from.2).0).1 ∙ ap coordinator_key_of (sym same) ∙ sym (row_key_is r.key id (recorded_says r id here).0).1 in
     true_false (sym above ∙ ap (λ (k : Key). is_lt (key_cmp r.key k)) key ∙ ap is_lt (tied_itself key_total r.key))
 
 -- each once

@@ -8,7 +8,7 @@ use Rattle.std.proofs.lemmas.Option.{get_or_from_slice_get, slice_get-get_or, sl
 use Rattle.sdb_contents.specs.Types.{Reply, Request, TableName}
 use Rattle.sdb_types.specs.declared.record.Request.TheVariants as ask
 use Rattle.sdb_types.specs.declared.record.Reply.TheVariants as reply
-use Rattle.sdb_types.specs.Contents.{Contents, after}
+use Rattle.sdb_types.specs.Contents.{Contents, IsWellFormed, after}
 use Rattle.sdb_store.specs.Store.{Performs}
 use Rattle.sdb_stores.specs.Views.{Attached, StoreView as Counted, AreUnchanged, IsCallAt, names_of, home_in, table_of}
 use Rattle.sdb_model.specs.declared.event.How.TheVariants.{Seen, Lost, Discarded, Delayed}
@@ -24,6 +24,7 @@ asked (ask.Get key) = refl
 asked (ask.Scan span) = refl
 asked (ask.PutIf r condition) = refl
 asked (ask.DeleteIf key condition) = refl
+asked (ask.PutAll batch) = refl
 
 -- what a store does is what an event says
 performed : (q : Request) (r : Reply) (old new : Contents) → Performs q r old new → IsPerformed q (how_seen r) r old new
@@ -31,6 +32,7 @@ performed q reply.Fault old new p = (refl, p)
 performed q reply.NoMemory old new p = inr (refl, p)
 performed q (reply.Found found) old new p = inl (λ i. (sym p.0 i, sym p.1 i))
 performed q (reply.Rows rows) old new p = inl (λ i. (sym p.0 i, sym p.1 i))
+performed q (reply.NotAll place there) old new p = inl (λ i. (sym p.0 i, sym p.1 i))
 performed q reply.Applied old new p = inl (λ i. (sym p.0 i, sym p.1 i))
 performed q (reply.NotMet found) old new p = inl (λ i. (sym p.0 i, sym p.1 i))
 
@@ -39,6 +41,7 @@ stays (ask.Get key) m e = refl
 stays (ask.Scan span) m e = refl
 stays (ask.PutIf r condition) m e = absurd (let f : false ≡ true = e in cc)
 stays (ask.DeleteIf key condition) m e = absurd (let f : false ≡ true = e in cc)
+stays (ask.PutAll batch) m e = absurd (let f : false ≡ true = e in cc)
 
 -- a read leaves its store as it was, whatever it answers
 kept : (q : Request) (r : Reply) (old new : Contents) → is_read q ≡ true → Performs q r old new → new ≡ old
@@ -49,6 +52,7 @@ kept q reply.Fault old new e p = elim p [
 kept q reply.NoMemory old new e p = p
 kept q (reply.Found found) old new e p = p.1 ∙ stays q old e
 kept q (reply.Rows rows) old new e p = p.1 ∙ stays q old e
+kept q (reply.NotAll place there) old new e p = p.1 ∙ stays q old e
 kept q reply.Applied old new e p = p.1 ∙ stays q old e
 kept q (reply.NotMet found) old new e p = p.1 ∙ stays q old e
 
@@ -91,6 +95,7 @@ module _ (old : Attached) (q : Request) (fit : AreUsableFor (table_asked q) old)
   called new r call =
       let there = there_is call.before call.stood in
       record {
+        formed = call.formed;
         held = call.before.contents;
         left = call.now.contents;
         placed = refl;
@@ -103,8 +108,8 @@ module _ (old : Attached) (q : Request) (fit : AreUsableFor (table_asked q) old)
   still new r call e = ap contents_of_views call.rest ∙ set_still old.views _ call.before call.now call.stood call.name (kept q r call.before.contents call.now.contents e (call.performed told_there))
 
   -- A call that is discarded is made on no store.
-  pub discarded : IsMade q Discarded reply.Fault old old
-  discarded = by (slice_get old.views (home_in old (table_of q).ns)) refl
+  pub discarded : IsWellFormed q → IsMade q Discarded reply.Fault old old
+  discarded formed = by (slice_get old.views (home_in old (table_of q).ns)) refl
     where
       by : (o : Option Counted) → slice_get old.views (home_in old (table_of q).ns) ≡ o → IsMade q Discarded reply.Fault old old
       by None at =
@@ -116,6 +121,7 @@ module _ (old : Attached) (q : Request) (fit : AreUsableFor (table_asked q) old)
       by (Some s) at =
           let there = there_is s at in
           record {
+            formed = formed;
             held = s.contents;
             left = s.contents;
             placed = refl;
@@ -125,14 +131,15 @@ module _ (old : Attached) (q : Request) (fit : AreUsableFor (table_asked q) old)
           }
 
   -- nor is one that is delayed
-  pub delayed : IsMade q Delayed reply.Fault old old
-  delayed =
-      let d = discarded in
-      record { held = d.held; left = d.left; placed = d.placed; found = d.found; performed = d.performed; others = d.others }
+  pub delayed : IsWellFormed q → IsMade q Delayed reply.Fault old old
+  delayed formed =
+      let d = discarded formed in
+      record { formed = d.formed; held = d.held; left = d.left; placed = d.placed; found = d.found; performed = d.performed; others = d.others }
 
 -- a call that answered, and whose reply is lost
 loses : (q : Request) (r : Reply) (old new : Attached) → IsMade q Seen r old new → r ≢ reply.NoMemory → IsMade q Lost reply.Fault old new
 loses q r old new c memory = record {
+  formed = c.formed;
   held = c.held;
   left = c.left;
   placed = c.placed;
@@ -150,6 +157,7 @@ lost q reply.Fault old new c = c
 lost q reply.NoMemory old new c = c
 lost q (reply.Found found) old new c = loses q (reply.Found found) old new c (λ e. cc)
 lost q (reply.Rows rows) old new c = loses q (reply.Rows rows) old new c (λ e. cc)
+lost q (reply.NotAll place there) old new c = loses q (reply.NotAll place there) old new c (λ e. cc)
 lost q reply.Applied old new c = loses q reply.Applied old new c (λ e. cc)
 lost q (reply.NotMet found) old new c = loses q (reply.NotMet found) old new c (λ e. cc)
 
@@ -159,6 +167,7 @@ once_seen q reply.Fault old new h = h
 once_seen q reply.NoMemory old new h = h
 once_seen q (reply.Found found) old new h = h
 once_seen q (reply.Rows rows) old new h = h
+once_seen q (reply.NotAll place there) old new h = h
 once_seen q reply.Applied old new h = h
 once_seen q (reply.NotMet found) old new h = h
 
@@ -168,6 +177,7 @@ once_lost q reply.Fault old new h = h
 once_lost q reply.NoMemory old new h = h
 once_lost q (reply.Found found) old new h = (reply.Found found, h)
 once_lost q (reply.Rows rows) old new h = (reply.Rows rows, h)
+once_lost q (reply.NotAll place there) old new h = (reply.NotAll place there, h)
 once_lost q reply.Applied old new h = (reply.Applied, h)
 once_lost q (reply.NotMet found) old new h = (reply.NotMet found, h)
 

@@ -1,11 +1,19 @@
 -- Writes made by calls, one after the other.
-use Rattle.std.proofs.Common.{◌≡◌, ◌≢◌, ℕ, List, [], ◌∷◌, ◌++◌, take, length, get_or, ◌<◌, ◌+◌, Result, Ok, Err, refl, sym, subst}
-use Rattle.std.specs.Prelude.{OnOk}
-use Rattle.sdb_contents.specs.Types.{Reply, Request}
+use Rattle.std.proofs.Common.{◌≡◌, ◌≢◌, ℕ, zero, suc, List, [], ◌∷◌, ◌++◌, map, filter, take, length, get_or, ◌<◌, ◌+◌, Option, Some, None, Result, Ok, Err, refl, sym, subst, arith}
+use Rattle.std.specs.Prelude.{OnOk, flat_map}
+use Rattle.std.specs.List.{AllByRecursion}
+use Rattle.std.specs.Str.{bytes_eq}
+use Rattle.sdb_contents.specs.Types.{Condition, Key, Record, Reply, Request}
+use Rattle.sdb_types.specs.declared.record.Request.TheVariants as ask
+use Rattle.sdb_types.specs.Contents.{CanAnswer, IsWellFormed}
+use Rattle.sdb_types.proofs.Public.{append_all}
+use Rattle.sdb_catalog.specs.declared.entry.Entry.{Entry}
+use Rattle.sdb_contents.specs.declared.seen.Seen.{Seen}
 use Rattle.sdb_types.specs.declared.record.Reply.TheVariants as reply
 use Rattle.sdb_stores.specs.Views.{Attached, StoreView, IsCallAt, index_at}
 use Rattle.sdb_catalog.specs.Calls.{with_states}
-use Rattle.sdb_contents.specs.Copying.{AreMade, IsDone, IsMade}
+use Rattle.sdb_contents.specs.Copying.{AreMade, IsDone, IsMade, IsOfOne, delete_of, delete_on, put_of, requests_for, requests_of, version_in}
+use Rattle.sdb_contents.specs.Moving.{renewal, renewals}
 use Rattle.sdb_contents.specs.Writes.{GoOn, Write, write_at, writes_at}
 use Rattle.sdb_contents.proofs.RetireCalls.{same_index}
 use Rattle.sdb_contents.proofs.Steps.{writes_more}
@@ -14,7 +22,7 @@ use Rattle.sdb_contents.proofs.Steps.{writes_more}
 pub made_call : (at : ℕ) (q : Request) (r : Reply) (old new : Attached) → IsCallAt at q r old new → IsDone q r → IsMade (write_at at q) old new.views
 made_call at q r old new c d = record {
   answer = r;
-  called = record { before = c.before; now = c.now; stood = c.stood; rest = c.rest; name = c.name; performed = c.performed; lawful = c.lawful; counted = c.counted; cause = c.cause; where_known = λ i t. t };
+  called = record { formed = c.formed; before = c.before; now = c.now; stood = c.stood; rest = c.rest; name = c.name; performed = c.performed; lawful = c.lawful; counted = c.counted; cause = c.cause; where_known = λ i t. t };
   done = d;
 }
 
@@ -23,6 +31,7 @@ made_less : (w : Write) (old cur : Attached) (new : List StoreView) → ((i : �
 made_less w old cur new where_known m = record {
   answer = m.answer;
   called = record {
+    formed = m.called.formed;
     before = m.called.before;
     now = m.called.now;
     stood = m.called.stood;
@@ -61,11 +70,56 @@ pub passed_made : {E : Type 0} (res : Result (Unit {0}) E) (q : Request) (r : Re
 passed_made (Ok u) q r at old new c d = made_call at q r old new c d
 passed_made (Err e) q r at old new c d = tt
 
+not_all : {A : Type 0} (q : Request) (place : ℕ) (found : Option Record) → IsOfOne q → CanAnswer q (reply.NotAll place found) → A
+not_all (ask.Get key) place found one can = absurd one
+not_all (ask.Scan span) place found one can = absurd one
+not_all (ask.PutIf r condition) place found one can = absurd can
+not_all (ask.DeleteIf key condition) place found one can = absurd can
+not_all (ask.PutAll b) place found one can = absurd one
+
 -- a reply that is no refusal of a call, and isn't unmet
-pub met_done : (q : Request) (r : Reply) → r ≢ reply.Fault → r ≢ reply.NoMemory → ((found : _) → r ≢ reply.NotMet found) → IsDone q r
-met_done q reply.Fault f n u = absurd (f refl)
-met_done q reply.NoMemory f n u = absurd (n refl)
-met_done q (reply.Found found) f n u = tt
-met_done q (reply.Rows rows) f n u = tt
-met_done q reply.Applied f n u = tt
-met_done q (reply.NotMet found) f n u = absurd (u found refl)
+pub met_done : (q : Request) (r : Reply) → IsOfOne q → CanAnswer q r → r ≢ reply.Fault → r ≢ reply.NoMemory → ((found : _) → r ≢ reply.NotMet found) → IsDone q r
+met_done q reply.Fault one can f n u = absurd (f refl)
+met_done q reply.NoMemory one can f n u = absurd (n refl)
+met_done q (reply.Found found) one can f n u = tt
+met_done q (reply.Rows rows) one can f n u = tt
+met_done q reply.Applied one can f n u = tt
+met_done q (reply.NotMet found) one can f n u = absurd (u found refl)
+met_done q (reply.NotAll place found) one can f n u = not_all q place found one can
+
+---- writes of one record
+
+pub one_formed : (q : Request) → IsOfOne q → IsWellFormed q
+one_formed (ask.Get key) one = tt
+one_formed (ask.Scan span) one = tt
+one_formed (ask.PutIf r condition) one = tt
+one_formed (ask.DeleteIf key condition) one = tt
+one_formed (ask.PutAll b) one = absurd one
+
+pub one_at : (qs : List Request) (i : ℕ) (q : Request) → i < length qs → q ≡ get_or qs i q → AllByRecursion IsOfOne qs → IsOfOne q
+one_at [] i q inside is all = absurd (omega (arith, inside))
+one_at (x ∷ xs) zero q inside is all = subst IsOfOne (sym is) all.0
+one_at (x ∷ xs) (suc i) q inside is all = one_at xs i q (omega (arith, inside)) is all.1
+
+delete_one : (key : Key) (o : Option Condition) → AllByRecursion IsOfOne (delete_on key o)
+delete_one key None = tt
+delete_one key (Some version) = (tt, tt)
+
+deletes_one : (rows : List Record) → AllByRecursion IsOfOne (flat_map delete_of rows)
+deletes_one [] = tt
+deletes_one (r ∷ rs) = append_all IsOfOne (delete_of r) (flat_map delete_of rs) (delete_one r.key (version_in r)) (deletes_one rs)
+
+puts_one : (rows : List Record) → AllByRecursion IsOfOne (map put_of rows)
+puts_one [] = tt
+puts_one (r ∷ rs) = (tt, puts_one rs)
+
+pub requests_one : (seen : List Seen) → AllByRecursion IsOfOne (requests_of seen)
+requests_one [] = tt
+requests_one (s ∷ ss) = append_all IsOfOne (requests_for s) (requests_of ss) (append_all IsOfOne (flat_map delete_of s.in_to) (map put_of s.in_from) (deletes_one s.in_to) (puts_one s.in_from)) (requests_one ss)
+
+pub renewals_one : (from to : List ℕ) (es : List Entry) → AllByRecursion IsOfOne (renewals from to es)
+renewals_one from to es = by (filter (λ e. bytes_eq e.store from) es)
+  where
+    by : (xs : List Entry) → AllByRecursion IsOfOne (map (renewal to) xs)
+    by [] = tt
+    by (x ∷ xs) = (tt, by xs)

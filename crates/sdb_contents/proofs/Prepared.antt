@@ -1,8 +1,10 @@
 -- Whose prepare a record is.
-use Rattle.std.proofs.Common.{◌≡◌, ℕ, ◌<◌, ◌^◌, Bool, true, false, Option, Some, None, refl, sym, ap, ◌∙◌, arith}
-use Rattle.std.specs.Prelude.{◌==◌, ◌&&◌, ◌||◌}
+use Rattle.std.proofs.Common.{◌≡◌, ℕ, ◌<◌, ◌^◌, Bool, true, false, List, [], ◌∷◌, Option, Some, None, refl, sym, ap, ◌∙◌, arith}
+use Rattle.std.specs.Prelude.{◌==◌, ◌&&◌, ◌||◌, if◌then◌else◌}
 use Rattle.std.proofs.lemmas.Bool.Decides.{nat_tests}
 use Rattle.sdb_contents.specs.Types.{Record, State, TxId}
+use Rattle.sdb_types.specs.declared.record.Put.{Put}
+use Rattle.sdb_types.specs.declared.record.Request.TheVariants as ask
 use Rattle.sdb_types.specs.declared.record.State.TheVariants.{Deleted, Prepared}
 use Rattle.sdb_types.specs.declared.value.Value.TheVariants as value
 use Rattle.sdb_types.specs.Columns.{column}
@@ -11,7 +13,7 @@ use Rattle.sdb_types.specs.TxId.{id_text}
 use Rattle.sdb_record.specs.Meta.{id_in}
 use Rattle.sdb_record.proofs.Public.{written}
 use Rattle.sdb_contents.specs.Order.{is_of}
-use Rattle.sdb_model.specs.Transactions.{is_prepared_record}
+use Rattle.sdb_model.specs.Transactions.{is_prepared_record, prepares}
 
 -- it has this state
 abbrev agrees : State → Record → Bool
@@ -50,3 +52,16 @@ by_nobody r id t small e own = by_writer r id t false small e own ∙ and_false 
     and_false : (b : Bool) → (b && false) ≡ false
     and_false true = refl
     and_false false = refl
+
+---- batches
+
+-- a batch prepares with its first put, or with another
+pub batch_step : (p : Put) (ps : List Put) (id : TxId) (n : ℕ) (o : Option ℕ)
+    → (if prepares id (ask.PutAll (p ∷ ps)) then Some n else o) ≡ (if prepares id (ask.PutAll ps) then Some n else (if is_prepared_record id p.rec then Some n else o))
+batch_step p [] id n o = refl
+batch_step p (q ∷ qs) id n o = by (is_prepared_record id p.rec) (prepares id (ask.PutAll (q ∷ qs)))
+  where
+    by : (x y : Bool) → (if x || y then Some n else o) ≡ (if y then Some n else (if x then Some n else o))
+    by true true = refl
+    by true false = refl
+    by false y = refl

@@ -58,6 +58,7 @@ answered_left q reply.Fault m n f g p = absurd (f refl)
 answered_left q reply.NoMemory m n f g p = absurd (g refl)
 answered_left q (reply.Found found) m n f g p = p.1
 answered_left q (reply.Rows rows) m n f g p = p.1
+answered_left q (reply.NotAll place there) m n f g p = p.1
 answered_left q reply.Applied m n f g p = p.1
 answered_left q (reply.NotMet found) m n f g p = p.1
 

@@ -50,6 +50,7 @@ first_step initial cur new store qs i q inside is goes h k =
 
 call_from : (at : ℕ) (q : Request) (found : Option Record) (a b : Attached) (mid new : List StoreView) → ((i : ℕ) → a.known i → b.known i) → IsCallAt at q (NotMet found) (with_states b mid) (with_states b new) → IsCallAt at q (NotMet found) (with_states a mid) (with_states a new)
 call_from at q found a b mid new where_known c = record {
+  formed = c.formed;
   before = c.before;
   now = c.now;
   stood = c.stood;
@@ -100,7 +101,7 @@ unwritten_met at q found old new (refused.BadRow key) c h = record {
   mid = old.views;
   held = hold_none old;
   found = found;
-  called = record { before = c.before; now = c.now; stood = c.stood; rest = c.rest; name = c.name; performed = c.performed; lawful = c.lawful; counted = c.counted; cause = c.cause; where_known = λ i t. t };
+  called = record { formed = c.formed; before = c.before; now = c.now; stood = c.stood; rest = c.rest; name = c.name; performed = c.performed; lawful = c.lawful; counted = c.counted; cause = c.cause; where_known = λ i t. t };
   fails = h.1;
   key = h.0;
 }

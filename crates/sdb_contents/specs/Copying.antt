@@ -36,9 +36,18 @@ requests_for s = flat_map delete_of s.in_to ++ map put_of s.in_from
 abbrev pub requests_of : List Seen → List Request
 requests_of seen = flat_map requests_for seen
 
+-- a write of one record
+abbrev pub IsOfOne : Request → Type 0
+IsOfOne (ask.PutIf r condition) = Unit {0}
+IsOfOne (ask.DeleteIf key condition) = Unit {0}
+IsOfOne (ask.PutAll b) = ⊥
+IsOfOne (ask.Get key) = ⊥
+IsOfOne (ask.Scan span) = ⊥
+
 abbrev pub is_put : Request → Bool
 is_put (ask.PutIf r condition) = true
 is_put (ask.DeleteIf key condition) = false
+is_put (ask.PutAll b) = false
 is_put (ask.Get key) = false
 is_put (ask.Scan span) = false
 
@@ -81,6 +90,7 @@ Passes (ask.DeleteIf key condition) found = Unit {0}
 Passes (ask.PutIf r Absent) (Some found) = found ≡ r
 Passes (ask.PutIf r Absent) None = ⊥
 Passes (ask.PutIf r (Version id state)) found = ⊥
+Passes (ask.PutAll b) found = ⊥
 Passes (ask.Get key) found = ⊥
 Passes (ask.Scan span) found = ⊥
 
@@ -92,6 +102,7 @@ IsDone q (reply.Found found) = Unit {0}
 IsDone q (reply.Rows rows) = Unit {0}
 IsDone q reply.Applied = Unit {0}
 IsDone q (reply.NotMet found) = Passes q found
+IsDone q (reply.NotAll place found) = ⊥
 
 -- A write was made by one call, and is done with.
 pub record IsMade (w : Write) (old : Attached) (new : List StoreView) : Type 0 where
@@ -108,6 +119,7 @@ AreMade (w ∷ ws) old new = (mid : List StoreView) × IsMade w old mid × AreMa
 abbrev pub key_asked : Request → Option Key
 key_asked (ask.DeleteIf key condition) = Some key
 key_asked (ask.PutIf r condition) = Some r.key
+key_asked (ask.PutAll b) = None
 key_asked (ask.Get key) = None
 key_asked (ask.Scan span) = None
 

@@ -3,17 +3,20 @@ ghost use Rattle.std.specs.Prelude.{◌≡◌, ◌<◌, ◌^◌, ◌||◌, if◌
 ghost use Rattle.std.specs.Option.{option_copied};
 ghost use Rattle.std.specs.Ordering.{nat_cmp};
 ghost use Rattle.std.specs.BTreeMap.{get};
+ghost use Rattle.sdb_types.specs.declared.record.Request.TheVariants.{PutAll};
 ghost use Rattle.sdb_types.specs.declared.record.State.TheVariants.{Deleted, Prepared};
 ghost use Rattle.sdb_types.specs.declared.txid.TxId.{TxId};
 ghost use Rattle.sdb_types.specs.Contents.{is_version};
 ghost use Rattle.sdb_record.specs.Ids.{id_of_text};
 ghost use Rattle.sdb_record.specs.Meta.{id_in, id_in_value};
-ghost use Rattle.sdb_model.specs.Transactions.{is_prepared_by, last_prepare, prepares};
+ghost use Rattle.sdb_model.specs.Transactions.{is_prepared_by, is_prepared_record, last_prepare, prepares};
 ghost use Rattle.sdb_contents.specs.Order.{is_of};
 
 use sdb_model::{Event, How};
 use sdb_record::has_version;
-use sdb_types::{Columns, Known, Name, NoMemory, Record, Reply, Request, State, TxId, Txt, Value};
+use sdb_types::{
+    Columns, Known, Name, NoMemory, Put, Record, Reply, Request, State, TxId, Txt, Value,
+};
 use std::alloc::Global;
 use std::collections::BTreeMap;
 
@@ -52,32 +55,50 @@ fn preparer(rec: &Record) -> Option<TxId>
     if is_prepare(rec, id) { Some(id) } else { None }
 }
 
-fn prepared_in(request: &Request) -> Option<TxId>
-    ensures { (id : TxId) → id.0 < 2 ^ 128 → prepares id request.now ≡ is_of id result }
+// Keeps a number of the transaction whose prepare a record is.
+fn add_record(found: &mut BTreeMap<u128, u64>, number: u64, rec: &Record) -> Result<(), NoMemory>
+    ensures { OnOk result ((id : TxId) → id.0 < 2 ^ 128 → get nat_cmp found.new id.0 ≡ (if is_prepared_record id rec.now then Some number else get nat_cmp found.old id.0)) }
 {
-    match request {
-        Request::PutIf(rec, _) => preparer(rec),
-        _ => None,
-    }
-}
-
-// The transaction of which an event is a prepare that was seen and applied.
-fn prepared_by(event: &Event) -> Option<TxId>
-    ensures { (id : TxId) → id.0 < 2 ^ 128 → is_prepared_by id event.now ≡ is_of id result }
-{
-    match event {
-        Event::Call(_, _, request, How::Seen, Reply::Applied, _) => prepared_in(request),
-        _ => None,
-    }
-}
-
-fn add_prepare(found: &mut BTreeMap<u128, u64>, number: u64, event: &Event) -> Result<(), NoMemory>
-    ensures { OnOk result ((id : TxId) → id.0 < 2 ^ 128 → get nat_cmp found.new id.0 ≡ (if is_prepared_by id event.now then Some number else get nat_cmp found.old id.0)) }
-{
-    if let Some(id) = prepared_by(event) {
+    if let Some(id) = preparer(rec) {
         found.insert(id.0, number)?;
     }
     Ok(())
+}
+
+// The same of each record of a batch.
+fn add_batch(found: &mut BTreeMap<u128, u64>, number: u64, puts: &[Put]) -> Result<(), NoMemory>
+    ensures { OnOk result ((id : TxId) → id.0 < 2 ^ 128 → get nat_cmp found.new id.0 ≡ (if prepares id (PutAll puts.now) then Some number else get nat_cmp found.old id.0)) }
+{
+    for put in puts {
+        add_record(found, number, &put.rec)?;
+    }
+    Ok(())
+}
+
+fn add_request(
+    found: &mut BTreeMap<u128, u64>,
+    number: u64,
+    request: &Request,
+) -> Result<(), NoMemory>
+    ensures { OnOk result ((id : TxId) → id.0 < 2 ^ 128 → get nat_cmp found.new id.0 ≡ (if prepares id request.now then Some number else get nat_cmp found.old id.0)) }
+{
+    match request {
+        Request::PutIf(rec, _) => add_record(found, number, rec),
+        Request::PutAll(batch) => add_batch(found, number, batch.as_slice()),
+        _ => Ok(()),
+    }
+}
+
+// The same of an event that is a prepare that was seen and applied.
+fn add_prepare(found: &mut BTreeMap<u128, u64>, number: u64, event: &Event) -> Result<(), NoMemory>
+    ensures { OnOk result ((id : TxId) → id.0 < 2 ^ 128 → get nat_cmp found.new id.0 ≡ (if is_prepared_by id event.now then Some number else get nat_cmp found.old id.0)) }
+{
+    match event {
+        Event::Call(_, _, request, How::Seen, Reply::Applied, _) => {
+            add_request(found, number, request)
+        }
+        _ => Ok(()),
+    }
 }
 
 /// Of each transaction, the number of its last prepare that was seen and applied.

@@ -1,5 +1,6 @@
 //! Calls on a named store.
 ghost use Rattle.std.specs.Prelude.{◌≡◌, ◌≢◌, ◌∷◌, [], IsSome, IfOk, IfErr, OnOk};
+ghost use Rattle.sdb_types.specs.Contents.{IsWellFormed};
 ghost use Rattle.sdb_stores.specs.Views.{IsCallAt, index_at, index_in};
 ghost use Rattle.sdb_contents.specs.Stopped.{IsStopped};
 ghost use Rattle.sdb_contents.specs.Writes.{GoOn, Hold, IsScanned, MayHold, write_at};
@@ -16,6 +17,7 @@ pub fn call<R: Registry>(
     request: &Request,
 ) -> Result<Reply, RetireRefused>
     requires attached { IsSome (index_in (R.state stores.old) store.now) }
+    requires formed { IsWellFormed request.now }
     ensures called { IfOk result (λ reply. IsCallAt (index_at (R.state stores.old) store.now) request.now reply (R.state stores.old) (R.state stores.new)) }
     ensures answered { IfOk result (λ reply. (reply ≢ Reply.Fault) × (reply ≢ Reply.NoMemory)) }
     ensures held { OnOk result (Hold (write_at (index_at (R.state stores.old) store.now) request.now ∷ []) (R.state stores.old) (R.state stores.new)) }

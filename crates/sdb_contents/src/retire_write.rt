@@ -1,8 +1,9 @@
 //! The writes of a retirement.
 ghost use Rattle.std.specs.Prelude.{◌≡◌, ◌++◌, ◌∷◌, [], ◌↔◌, Some, IsSome, IsTrue, IfOk, IfErr, OnOk, count_by, flat_map, map};
+ghost use Rattle.std.specs.List.{AllByRecursion};
 ghost use Rattle.sdb_types.specs.Contents.{CanAnswer};
 ghost use Rattle.sdb_stores.specs.Views.{index_at, index_in};
-ghost use Rattle.sdb_contents.specs.Copying.{AreMade, IsMade, Passes, delete_of, key_asked, is_put as is_put_lem, put_of, requests_for, requests_of as requests_of_lem};
+ghost use Rattle.sdb_contents.specs.Copying.{AreMade, IsMade, IsOfOne, Passes, delete_of, key_asked, is_put as is_put_lem, put_of, requests_for, requests_of as requests_of_lem};
 ghost use Rattle.sdb_contents.specs.Stopped.{IsUnmet, IsUnwritten};
 ghost use Rattle.sdb_contents.specs.Writes.{GoOn, Hold, HoldFirst, MayHold, write_at, writes_at};
 
@@ -121,6 +122,7 @@ fn unmet(request: &Request, found: &Option<Record>) -> Result<(), RetireRefused>
 // Makes a write on the store of that name. One that isn't met is passed over where the copy may go on.
 fn write<R: Registry>(stores: &mut R, store: &Name, request: &Request) -> Result<(), RetireRefused>
     requires attached { IsSome (index_in (R.state stores.old) store.now) }
+    requires one { IsOfOne request.now }
     ensures held { OnOk result (Hold (write_at (index_at (R.state stores.old) store.now) request.now ∷ []) (R.state stores.old) (R.state stores.new)) }
     ensures made { OnOk result (IsMade (write_at (index_at (R.state stores.old) store.now) request.now) (R.state stores.old) (R.state stores.new).views) }
     ensures left { MayHold (write_at (index_at (R.state stores.old) store.now) request.now) (R.state stores.old) (R.state stores.new) }
@@ -140,6 +142,7 @@ pub fn run<R: Registry>(
     requests: &[Request],
 ) -> Result<(), RetireRefused>
     requires attached { IsSome (index_in (R.state stores.old) store.now) }
+    requires one { AllByRecursion IsOfOne requests.now }
     ensures held { OnOk result (Hold (writes_at (index_at (R.state stores.old) store.now) requests.now) (R.state stores.old) (R.state stores.new)) }
     ensures made { OnOk result (AreMade (writes_at (index_at (R.state stores.old) store.now) requests.now) (R.state stores.old) (R.state stores.new).views) }
     ensures left { HoldFirst (writes_at (index_at (R.state stores.old) store.now) requests.now) (R.state stores.old) (R.state stores.new) }

@@ -1,9 +1,10 @@
 -- Each call is one arrow, each text one statement, and each answer and each landing one mark.
 use Rattle.std.proofs.Common.{◌≡◌, ℕ, ◌+◌, Bool, true, false, List, [], ◌∷◌, ◌++◌, refl, ap, ◌∙◌, if◌then◌else◌, ◌==◌}
 use Rattle.std.specs.Prelude.{Option, Some, None, take}
-use Rattle.std.specs.List.{filter_map}
+use Rattle.std.specs.List.{filter_map, flat_map}
 use Rattle.std.proofs.lemmas.List.Elements.{filter_map-append}
 use Rattle.sdb_picture.specs.Types.{Answer, Event, How, Reply, Request}
+use Rattle.sdb_types.specs.declared.record.Put.{Put}
 use Rattle.sdb_types.specs.declared.record.Request.TheVariants as ask
 use Rattle.sdb_model.specs.Rows.{Name}
 use Rattle.sdb_model.specs.declared.event.Event.TheVariants as event
@@ -15,7 +16,7 @@ use Rattle.sdb_picture.specs.Effects.{is_decision, may_change}
 use Rattle.sdb_picture.specs.Known.{effect_at}
 use Rattle.sdb_picture.specs.Lanes.{client_lane}
 use Rattle.sdb_picture.specs.Arrows.{answer_at, answer_of, answers_from, arrow_of, calls_from, landing_of, landings_from, marks_in, statement_of, texts_from}
-use Rattle.sdb_picture.specs.Marks.{Mark, Band, Decided, Rested, Ticked, answer_marks, effect_marks, groups_of, idle_marks}
+use Rattle.sdb_picture.specs.Marks.{Mark, Band, Decided, Rested, Ticked, answer_marks, effect_marks, groups_of, idle_marks, written_marks}
 
 ---- lists
 
@@ -41,6 +42,14 @@ IsBlind f =
     ((row store : ℕ) (verdict : Verdict) (effect : Effect) → f (Decided row store verdict effect) ≡ None)
     × ((lane row rows : ℕ) (stage : Stage) (effect : Effect) → f (Band lane row rows stage effect) ≡ None)
 
+no_written_mark : {X : Type 0} (f : Mark → Option X) → IsBlind f → (lanes : Lanes) (past : List Event) (row : ℕ) (store : Name) (q : Request) (effect : Put → Effect) (rest : List Event) (puts : List Put)
+    → filter_map f (flat_map (λ p. written_marks lanes past row store q p.rec p.condition (effect p) rest) puts) ≡ []
+unfolding IsBlind
+no_written_mark f blind lanes past row store q effect rest [] = refl
+no_written_mark f blind lanes past row store q effect rest (p ∷ ps) =
+    filter_map-append f (written_marks lanes past row store q p.rec p.condition (effect p) rest) _
+    ∙ skipped _ _ (none_if f (may_change (effect p)) (is_decision p.rec) _ _ (blind.0 _ _ _ _) (blind.1 _ _ _ _ _)) (no_written_mark f blind lanes past row store q effect rest ps)
+
 no_effect_mark : {X : Type 0} (f : Mark → Option X) → IsBlind f → (lanes : Lanes) (past : List Event) (row : ℕ) (store : Name) (q : Request) (how : How) (r : Reply) (rest : List Event) → filter_map f (effect_marks lanes past row store q how r rest) ≡ []
 unfolding IsBlind
 no_effect_mark f blind lanes past row store (ask.Get key) how r rest = refl
@@ -48,6 +57,7 @@ no_effect_mark f blind lanes past row store (ask.Scan span) how r rest = refl
 no_effect_mark f blind lanes past row store (ask.PutIf w condition) how r rest =
     none_if f (may_change (effect_at past store w.key (ask.PutIf w condition) how r)) (is_decision w) _ _ (blind.0 _ _ _ _) (blind.1 _ _ _ _ _)
 no_effect_mark f blind lanes past row store (ask.DeleteIf key condition) how r rest = refl
+no_effect_mark f blind lanes past row store (ask.PutAll batch) how r rest = no_written_mark f blind lanes past row store (ask.PutAll batch) (λ p. effect_at past store p.rec.key (ask.PutAll batch) how r) rest batch
 
 -- what is read from a call's effect and answer is read from its answer
 after_effect : {X : Type 0} (f : Mark → Option X) → IsBlind f → (lanes : Lanes) (past : List Event) (row : ℕ) (store : Name) (q : Request) (how : How) (r : Reply) (rest : List Event) (more : List Mark) → filter_map f (effect_marks lanes past row store q how r rest ++ more) ≡ filter_map f more

@@ -1,6 +1,7 @@
 -- What calls and landings do to records, as far as a report says it.
-use Rattle.std.specs.Prelude.{Bool, true, false, not, ◌&&◌, if◌then◌else◌, Option, Some, None}
+use Rattle.std.specs.Prelude.{Bool, true, false, not, ◌&&◌, if◌then◌else◌, List, Option, Some, None, find, is_some}
 use Rattle.sdb_types.specs.Order.{same_key}
+use Rattle.sdb_types.specs.declared.record.Put.{Put}
 use Rattle.sdb_picture.specs.Types.{Condition, How, Key, Record, Reply, Request}
 use Rattle.sdb_types.specs.declared.record.Condition.TheVariants as condition
 use Rattle.sdb_types.specs.declared.record.Reply.TheVariants as reply
@@ -27,6 +28,7 @@ effect_seen (reply.Found found) = effect.Nothing
 effect_seen (reply.Rows rows) = effect.Nothing
 effect_seen reply.Applied = effect.Sure
 effect_seen (reply.NotMet found) = effect.Nothing
+effect_seen (reply.NotAll place found) = effect.Nothing
 effect_seen reply.Fault = effect.Nothing
 effect_seen reply.NoMemory = effect.Nothing
 
@@ -46,11 +48,16 @@ may_change effect.Nothing = false
 
 ---- records
 
+-- the put of a batch that writes a key
+abbrev pub put_of_key : Key → List Put → Option Put
+put_of_key key b = find (λ p. same_key p.rec.key key) b
+
 abbrev pub writes : Key → Request → Bool
 writes key (ask.Get at) = false
 writes key (ask.Scan span) = false
 writes key (ask.PutIf r condition) = same_key r.key key
 writes key (ask.DeleteIf at condition) = same_key at key
+writes key (ask.PutAll b) = is_some (put_of_key key b)
 
 -- a call on a store that writes the record at a key of a store
 abbrev pub writes_at : Name → Request → Name → Key → Bool
@@ -86,13 +93,3 @@ verdict_of r =
 -- a coordinator's row
 abbrev pub is_decision : Record → Bool
 is_decision r = is_coordinator_table r.key.table
-
-abbrev pub banded : Request → Option Record
-banded (ask.Get key) = None
-banded (ask.Scan span) = None
-banded (ask.PutIf r condition) = if is_decision r then None else Some r
-banded (ask.DeleteIf key condition) = None
-
--- The record whose band begins at a call: one that was put, or may have been, and isn't a coordinator's row.
-abbrev pub band_begun : Request → Effect → Option Record
-band_begun request effect = if may_change effect then banded request else None

@@ -1,12 +1,14 @@
 -- The lanes of a picture: a client, a store or a record each, in the order in which their first events come.
-use Rattle.std.specs.Prelude.{ℕ, Bool, ◌==◌, ◌&&◌, if◌then◌else◌, List, [], ◌∷◌, ◌++◌, fold, position, Option, Some, None, is_some, unwrap_or}
+use Rattle.std.specs.Prelude.{ℕ, Bool, ◌==◌, ◌&&◌, if◌then◌else◌, List, [], ◌∷◌, ◌++◌, fold, position, is_some, unwrap_or}
 use Rattle.sdb_types.specs.Order.{same_key}
-use Rattle.sdb_picture.specs.Types.{Event, Key, Record}
+use Rattle.sdb_types.specs.declared.record.Request.TheVariants as ask
+use Rattle.sdb_picture.specs.Types.{Event, Key, Record, Request}
 use Rattle.sdb_model.specs.Rows.{Name, same_name}
 use Rattle.sdb_model.specs.declared.event.Event.TheVariants as event
 use Rattle.sdb_picture.specs.declared.lanes.Lanes.{Lanes}
 use Rattle.sdb_picture.specs.declared.lanes.Place.{Place}
-use Rattle.sdb_picture.specs.Effects.{band_begun, effect_of}
+use Rattle.sdb_picture.specs.declared.effect.Effect.{Effect}
+use Rattle.sdb_picture.specs.Effects.{effect_of, is_decision, may_change}
 
 ---- clients
 
@@ -52,20 +54,32 @@ abbrev pub with_record : List Place → Name → Record → List Place
 with_record records store r =
     if is_some (position (is_at store r.key) records) then records else records ++ record { store = store; key = r.key } ∷ []
 
-abbrev pub with_begun : List Place → Name → Option Record → List Place
-with_begun records store None = records
-with_begun records store (Some r) = with_record records store r
+-- with a record that is put, unless it is a coordinator's row
+abbrev pub with_put : Name → List Place → Record → List Place
+with_put store records r = if is_decision r then records else with_record records store r
 
--- the record that an event puts, or may have put, by its reply
+-- with each record that a request puts
+abbrev pub with_puts : List Place → Name → Request → List Place
+with_puts records store (ask.Get key) = records
+with_puts records store (ask.Scan span) = records
+with_puts records store (ask.PutIf r condition) = with_put store records r
+with_puts records store (ask.DeleteIf key condition) = records
+with_puts records store (ask.PutAll b) = fold (λ places p. with_put store places p.rec) records b
+
+-- The records whose bands may begin at a call: those that it put, or may have put, and that aren't coordinator's rows.
+abbrev pub with_begun : List Place → Name → Request → Effect → List Place
+with_begun records store request effect = if may_change effect then with_puts records store request else records
+
+-- the records that an event puts, or may have put, by its reply
 abbrev pub with_record_of : List Place → Event → List Place
 with_record_of records (event.Take client text given) = records
 with_record_of records (event.Call client store request how reply given) =
-    with_begun records store (band_begun request (effect_of how reply))
+    with_begun records store request (effect_of how reply)
 with_record_of records (event.Stop client) = records
 with_record_of records (event.Clock moment) = records
 with_record_of records (event.Idle client) = records
 with_record_of records (event.Land number store request how reply) =
-    with_begun records store (band_begun request (effect_of how reply))
+    with_begun records store request (effect_of how reply)
 with_record_of records (event.Alter table column kind altered) = records
 
 abbrev pub records_of : List Event → List Place

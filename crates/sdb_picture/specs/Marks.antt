@@ -1,6 +1,7 @@
 -- What is drawn of a report: for each event its marks, each with its row, its lane and its label, and a mark for each point.
 use Rattle.std.specs.Prelude.{ℕ, ℤ, ◌+◌, ◌==◌, nat_lt, if◌then◌else◌, List, [], ◌∷◌, ◌++◌, length, take, codes, decimal, Option, Some, None}
 use Rattle.std.specs.Fmt.{signed_decimal}
+use Rattle.std.specs.List.{flat_map}
 use Rattle.sdb_types.specs.TxId.{id_text}
 use Rattle.sdb_picture.specs.Types.{Altered, Answer, Condition, Event, How, Kind, Outcome, Point, Record, Reply, Request, TableName}
 use Rattle.sdb_types.specs.declared.record.Reply.TheVariants as reply
@@ -48,6 +49,7 @@ reply_word (reply.Found (Some r)) = codes "found"
 reply_word (reply.Rows rows) = codes "rows"
 reply_word reply.Applied = codes "applied"
 reply_word (reply.NotMet found) = codes "not met"
+reply_word (reply.NotAll place found) = codes "not met"
 reply_word reply.Fault = codes "fault"
 reply_word reply.NoMemory = codes "no memory"
 
@@ -84,6 +86,8 @@ effect_marks lanes past row store (ask.Scan span) how reply rest = []
 effect_marks lanes past row store (ask.PutIf r condition) how reply rest =
     written_marks lanes past row store (ask.PutIf r condition) r condition (effect_at past store r.key (ask.PutIf r condition) how reply) rest
 effect_marks lanes past row store (ask.DeleteIf key condition) how reply rest = []
+effect_marks lanes past row store (ask.PutAll b) how reply rest =
+    flat_map (λ p. written_marks lanes past row store (ask.PutAll b) p.rec p.condition (effect_at past store p.rec.key (ask.PutAll b) how reply) rest) b
 
 ---- events
 
@@ -100,6 +104,7 @@ asked_text (ask.Get key) = codes "get " ++ key_text_of key
 asked_text (ask.Scan span) = codes "scan " ++ span_text_of span
 asked_text (ask.PutIf r condition) = codes "put " ++ record_text_of r
 asked_text (ask.DeleteIf key condition) = codes "delete " ++ key_text_of key
+asked_text (ask.PutAll b) = codes "put " ++ decimal (length b) ++ codes " records"
 
 -- A call is one arrow, from its client to its store.
 abbrev pub call_marks : Lanes → ℕ → ℕ → Name → Request → How → Reply → List Mark

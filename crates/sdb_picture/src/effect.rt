@@ -7,7 +7,7 @@ ghost use Rattle.sdb_picture.specs.Effects as spec;
 
 use sdb_model::How;
 use sdb_record::{has_state, is_coordinator, is_same_version, is_tombstone, writer_of};
-use sdb_types::{Condition, Key, Name, Record, Reply, Request, State};
+use sdb_types::{Batch, Condition, Key, Name, Put, Record, Reply, Request, State};
 
 /// Whether a write took effect.
 #[derive(Clone, Copy, Debug, PartialEq, Eq)]
@@ -91,6 +91,16 @@ pub fn same_name_as(a: &Name, b: &Name) -> bool
     a.cmp(b).is_eq()
 }
 
+/// The put of a batch that writes a key, if there is one.
+pub fn put_of_key<'a>(batch: &'a Batch, key: &Key) -> Option<&'a Put>
+    ensures { option_copied result ≡ spec.put_of_key key.now batch.now }
+{
+    batch
+        .as_slice()
+        .iter()
+        .find(|put| same_key_as(&put.rec.key, key))
+}
+
 fn writes(request: &Request, key: &Key) -> bool
     ensures { result ≡ spec.writes key.now request.now }
 {
@@ -99,6 +109,7 @@ fn writes(request: &Request, key: &Key) -> bool
         Request::Scan(_) => false,
         Request::PutIf(rec, _) => same_key_as(&rec.key, key),
         Request::DeleteIf(at, _) => same_key_as(at, key),
+        Request::PutAll(batch) => put_of_key(batch, key).is_some(),
     }
 }
 
@@ -171,27 +182,4 @@ pub fn is_decision(rec: &Record) -> bool
     ensures { result ≡ spec.is_decision rec.now }
 {
     is_coordinator(&rec.key.table)
-}
-
-// The record that a request puts, where its band is drawn: it isn't a coordinator's row.
-fn banded(request: &Request) -> Option<&Record>
-    ensures { option_copied result ≡ spec.banded request.now }
-{
-    match request {
-        Request::Get(_) => None,
-        Request::Scan(_) => None,
-        Request::PutIf(rec, _) => { if is_decision(rec) { None } else { Some(rec) } }
-        Request::DeleteIf(_, _) => None,
-    }
-}
-
-/// The record whose band begins at a call: one that was put, or may have been, and isn't a coordinator's row.
-pub fn band_begun<'a>(request: &'a Request, effect: Effect) -> Option<&'a Record>
-    ensures { option_copied result ≡ spec.band_begun request.now effect }
-{
-    if may_change(effect) {
-        banded(request)
-    } else {
-        None
-    }
 }

@@ -42,6 +42,7 @@ fn reply_word(reply: &Reply) -> &'static str
         Reply::Rows(_) => "rows",
         Reply::Applied => "applied",
         Reply::NotMet(_) => "not met",
+        Reply::NotAll(_, _) => "not met",
         Reply::Fault => "fault",
         Reply::NoMemory => "no memory",
     }

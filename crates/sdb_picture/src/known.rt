@@ -3,45 +3,45 @@ ghost use Rattle.std.specs.Prelude.{◌≡◌};
 ghost use Rattle.std.specs.Option.{option_copied};
 ghost use Rattle.sdb_picture.specs.Known as spec;
 
-use crate::effect::{Effect, effect_seen, may_change, writes_at};
+use crate::effect::{Effect, effect_seen, may_change, put_of_key, writes_at};
 use sdb_model::{Event, How};
 use sdb_store::holds;
 use sdb_types::{Key, Name, Record, Reply, Request};
 
-// The record that a request puts.
-fn put_by(request: &Request) -> Option<&Record>
-    ensures { option_copied result ≡ spec.put_by request.now }
+// The record that a write of a key puts there.
+fn put_by<'a>(request: &'a Request, key: &Key) -> Option<&'a Record>
+    ensures { option_copied result ≡ spec.put_by key.now request.now }
 {
     match request {
         Request::Get(_) => None,
         Request::Scan(_) => None,
         Request::PutIf(rec, _) => Some(rec),
         Request::DeleteIf(_, _) => None,
+        Request::PutAll(batch) => put_of_key(batch, key).map(|put| &put.rec),
     }
 }
 
-// Whether the condition of a write holds of what is at its key.
-fn is_met(request: &Request, found: Option<&Record>) -> bool
-    ensures { result ≡ spec.is_met request.now (option_copied found.entry) }
+// Whether the condition of a write of a key holds of what is there.
+fn is_met(request: &Request, key: &Key, found: Option<&Record>) -> bool
+    ensures { result ≡ spec.is_met key.now request.now (option_copied found.entry) }
 {
     match request {
         Request::Get(_) => false,
         Request::Scan(_) => false,
         Request::PutIf(_, condition) => holds(condition, found),
         Request::DeleteIf(_, condition) => holds(condition, found),
+        Request::PutAll(batch) => match put_of_key(batch, key) {
+            Some(put) => holds(&put.condition, found),
+            None => false,
+        },
     }
 }
 
-fn effect_lost(sure: bool, met: bool) -> Effect
-    ensures { result ≡ spec.effect_lost sure met }
+// Whether a request writes more keys than one.
+fn is_of_many(request: &Request) -> bool
+    ensures { result ≡ spec.is_of_many request.now }
 {
-    if !sure {
-        Effect::Doubtful
-    } else if met {
-        Effect::Sure
-    } else {
-        Effect::Nothing
-    }
+    matches!(request, Request::PutAll(_))
 }
 
 fn effect_failed(sure: bool, met: bool) -> Effect
@@ -54,36 +54,52 @@ fn effect_failed(sure: bool, met: bool) -> Effect
     }
 }
 
-/// Whether a write took effect where this was at its key.
+fn effect_lost(of_many: bool, sure: bool, met: bool) -> Effect
+    ensures { result ≡ spec.effect_lost of_many sure met }
+{
+    if of_many {
+        effect_failed(sure, met)
+    } else if !sure {
+        Effect::Doubtful
+    } else if met {
+        Effect::Sure
+    } else {
+        Effect::Nothing
+    }
+}
+
+/// Whether a write of a key took effect where this was there.
 pub fn effect_in(
+    key: &Key,
     sure: bool,
     found: Option<&Record>,
     request: &Request,
     how: How,
     reply: &Reply,
 ) -> Effect
-    ensures { result ≡ spec.effect_in (spec.known sure (option_copied found.entry)) request.now how reply.now }
+    ensures { result ≡ spec.effect_in key.now (spec.known sure (option_copied found.entry)) request.now how reply.now }
 {
     match how {
         How::Seen => effect_seen(reply),
-        How::Lost => effect_lost(sure, is_met(request, found)),
+        How::Lost => effect_lost(is_of_many(request), sure, is_met(request, key, found)),
         How::Discarded => Effect::Nothing,
         How::Delayed => Effect::Nothing,
-        How::Broken => effect_failed(sure, is_met(request, found)),
+        How::Broken => effect_failed(sure, is_met(request, key, found)),
     }
 }
 
-// What is known after a write that came to this.
+// What is known after a write of a key that came to this.
 fn after<'a>(
+    key: &Key,
     sure: bool,
     found: Option<&'a Record>,
     request: &'a Request,
     effect: Effect,
 ) -> (bool, Option<&'a Record>)
-    ensures { spec.known result.0 (option_copied result.1) ≡ spec.after (spec.known sure (option_copied found.entry)) request.now effect }
+    ensures { spec.known result.0 (option_copied result.1) ≡ spec.after key.now (spec.known sure (option_copied found.entry)) request.now effect }
 {
     match effect {
-        Effect::Sure => (true, put_by(request)),
+        Effect::Sure => (true, put_by(request, key)),
         Effect::Doubtful => (false, None),
         Effect::Nothing => (sure, found),
     }
@@ -103,12 +119,8 @@ fn written<'a>(
     ensures { spec.known result.0 (option_copied result.1) ≡ spec.written store.now key.now (spec.known sure (option_copied found.entry)) at.now request.now how reply.now }
 {
     if writes_at(at, request, store, key) {
-        after(
-            sure,
-            found,
-            request,
-            effect_in(sure, found, request, how, reply),
-        )
+        let effect = effect_in(key, sure, found, request, how, reply);
+        after(key, sure, found, request, effect)
     } else {
         (sure, found)
     }
@@ -159,14 +171,14 @@ fn changes(sure: bool, found: Option<&Record>, store: &Name, key: &Key, event: &
         Event::Take(_, _, _) => false,
         Event::Call(_, at, request, how, reply, _) => {
             writes_at(at, request, store, key)
-                && may_change(effect_in(sure, found, request, *how, reply))
+                && may_change(effect_in(key, sure, found, request, *how, reply))
         }
         Event::Stop(_) => false,
         Event::Clock(_) => false,
         Event::Idle(_) => false,
         Event::Land(_, at, request, how, reply) => {
             writes_at(at, request, store, key)
-                && may_change(effect_in(sure, found, request, *how, reply))
+                && may_change(effect_in(key, sure, found, request, *how, reply))
         }
         Event::Alter(_, _, _, _) => false,
     }
@@ -212,7 +224,7 @@ pub fn effect_at(
     ensures { result ≡ spec.effect_at past.now store.now key.now request.now how reply.now }
 {
     let (sure, found) = known_after(past, store, key);
-    effect_in(sure, found, request, how, reply)
+    effect_in(key, sure, found, request, how, reply)
 }
 
 /// How many of the events after a write that came to this come before the next change of its record.
@@ -227,6 +239,6 @@ pub fn rows_after(
     ensures { result ≡ spec.rows_after past.now store.now key.now request.now effect rest.now }
 {
     let (sure, found) = known_after(past, store, key);
-    let (sure, found) = after(sure, found, request, effect);
+    let (sure, found) = after(key, sure, found, request, effect);
     rows_before_change(sure, found, store, key, rest)
 }

@@ -1,12 +1,11 @@
 //! The lanes of a picture: a client, a store or a record each.
-ghost use Rattle.std.specs.Prelude.{◌≡◌, ◌==◌, OnOk, IfOk, position};
-ghost use Rattle.std.specs.Option.{option_copied};
+ghost use Rattle.std.specs.Prelude.{◌≡◌, ◌==◌, OnOk, IfOk, fold, position};
 ghost use Rattle.sdb_model.specs.Rows.{same_name};
 ghost use Rattle.sdb_picture.specs.Lanes as spec;
 
-use crate::effect::{band_begun, effect_of, is_same_place, same_name_as};
+use crate::effect::{Effect, effect_of, is_decision, is_same_place, may_change, same_name_as};
 use sdb_model::Event;
-use sdb_types::{Duplicate, Key, Name, NoMemory, Record, Seq};
+use sdb_types::{Batch, Duplicate, Key, Name, NoMemory, Record, Request, Seq};
 use std::alloc::Global;
 
 /// A record: a key of a store.
@@ -191,12 +190,51 @@ fn add_record(records: &mut Seq<Place>, store: &Name, rec: &Record) -> Result<()
     }
 }
 
-fn add_begun(records: &mut Seq<Place>, store: &Name, begun: Option<&Record>) -> Result<(), NoMemory>
-    ensures { OnOk result (records.new ≡ spec.with_begun records.old store.now (option_copied begun.entry)) }
+// Adds a record that is put, unless it is a coordinator's row.
+fn add_put(records: &mut Seq<Place>, store: &Name, rec: &Record) -> Result<(), NoMemory>
+    ensures { OnOk result (records.new ≡ spec.with_put store.now records.old rec.now) }
 {
-    match begun {
-        Some(rec) => add_record(records, store, rec),
-        None => Ok(()),
+    if is_decision(rec) {
+        Ok(())
+    } else {
+        add_record(records, store, rec)
+    }
+}
+
+fn add_batch(records: &mut Seq<Place>, store: &Name, batch: &Batch) -> Result<(), NoMemory>
+    ensures { OnOk result (records.new ≡ fold (λ places p. spec.with_put store.now places p.rec) records.old batch.now) }
+{
+    for put in batch.as_slice() {
+        add_put(records, store, &put.rec)?;
+    }
+    Ok(())
+}
+
+fn add_puts(records: &mut Seq<Place>, store: &Name, request: &Request) -> Result<(), NoMemory>
+    ensures { OnOk result (records.new ≡ spec.with_puts records.old store.now request.now) }
+{
+    match request {
+        Request::Get(_) => Ok(()),
+        Request::Scan(_) => Ok(()),
+        Request::PutIf(rec, _) => add_put(records, store, rec),
+        Request::DeleteIf(_, _) => Ok(()),
+        Request::PutAll(batch) => add_batch(records, store, batch),
+    }
+}
+
+// Adds the records whose bands may begin at a call.
+fn add_begun(
+    records: &mut Seq<Place>,
+    store: &Name,
+    request: &Request,
+    effect: Effect,
+) -> Result<(), NoMemory>
+    ensures { OnOk result (records.new ≡ spec.with_begun records.old store.now request.now effect) }
+{
+    if may_change(effect) {
+        add_puts(records, store, request)
+    } else {
+        Ok(())
     }
 }
 
@@ -206,13 +244,13 @@ fn add_record_of(records: &mut Seq<Place>, event: &Event) -> Result<(), NoMemory
     match event {
         Event::Take(_, _, _) => Ok(()),
         Event::Call(_, store, request, how, reply, _) => {
-            add_begun(records, store, band_begun(request, effect_of(*how, reply)))
+            add_begun(records, store, request, effect_of(*how, reply))
         }
         Event::Stop(_) => Ok(()),
         Event::Clock(_) => Ok(()),
         Event::Idle(_) => Ok(()),
         Event::Land(_, store, request, how, reply) => {
-            add_begun(records, store, band_begun(request, effect_of(*how, reply)))
+            add_begun(records, store, request, effect_of(*how, reply))
         }
         Event::Alter(_, _, _, _) => Ok(()),
     }

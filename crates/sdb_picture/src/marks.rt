@@ -2,6 +2,7 @@
 ghost use Rattle.std.specs.Prelude.{◌≡◌, ◌++◌, OnOk, IfOk};
 ghost use Rattle.std.specs.List.{flat_map};
 ghost use Rattle.std.specs.String.{string_bytes};
+ghost use Rattle.sdb_picture.specs.Known.{effect_at as effect_at_lem};
 ghost use Rattle.sdb_picture.specs.Marks as spec;
 ghost use Rattle.sdb_picture.specs.Svg.{mark_svg};
 
@@ -14,7 +15,7 @@ use crate::titles::{alter_text, asked_text, clock_text, idle_text, landed_text};
 use crate::{Effect, Lanes, effect_at, is_decision, may_change, rows_after, stage_of, verdict_of};
 use sdb_model::{Altered, Answer, Event, How, answer_text};
 use sdb_schema::Kind;
-use sdb_types::{Condition, Name, NoMemory, Record, Reply, Request, TableName};
+use sdb_types::{Batch, Condition, Name, NoMemory, Put, Record, Reply, Request, TableName};
 use std::alloc::Global;
 
 fn put_answer_marks(
@@ -184,6 +185,57 @@ fn put_written(
     put_put(out, lanes, row, store, rec, condition, effect, rows)
 }
 
+// Adds the marks of one put of a batch.
+fn put_of_batch(
+    out: &mut String,
+    lanes: &Lanes,
+    past: &[Event],
+    row: usize,
+    store: &Name,
+    request: &Request,
+    put: &Put,
+    how: How,
+    reply: &Reply,
+    rest: &[Event],
+) -> Result<(), NoMemory>
+    ensures { OnOk result (string_bytes out.new ≡ string_bytes out.old ++ flat_map (mark_svg lanes.now) (spec.written_marks lanes.now past.now row store.now request.now put.now.rec put.now.condition (effect_at_lem past.now store.now put.now.rec.key request.now how reply.now) rest.now)) }
+{
+    let rec = &put.rec;
+    let effect = effect_at(past, store, &rec.key, request, how, reply);
+    put_written(
+        out,
+        lanes,
+        past,
+        row,
+        store,
+        request,
+        rec,
+        &put.condition,
+        effect,
+        rest,
+    )
+}
+
+fn put_batch(
+    out: &mut String,
+    lanes: &Lanes,
+    past: &[Event],
+    row: usize,
+    store: &Name,
+    request: &Request,
+    batch: &Batch,
+    how: How,
+    reply: &Reply,
+    rest: &[Event],
+) -> Result<(), NoMemory>
+    ensures { OnOk result (string_bytes out.new ≡ string_bytes out.old ++ flat_map (mark_svg lanes.now) (flat_map (λ p. spec.written_marks lanes.now past.now row store.now request.now p.rec p.condition (effect_at_lem past.now store.now p.rec.key request.now how reply.now) rest.now) batch.now)) }
+{
+    for put in batch.as_slice() {
+        put_of_batch(out, lanes, past, row, store, request, put, how, reply, rest)?;
+    }
+    Ok(())
+}
+
 fn put_effect(
     out: &mut String,
     lanes: &Lanes,
@@ -207,6 +259,9 @@ fn put_effect(
             )
         }
         Request::DeleteIf(_, _) => Ok(()),
+        Request::PutAll(batch) => put_batch(
+            out, lanes, past, row, store, request, batch, how, reply, rest,
+        ),
     }
 }
 

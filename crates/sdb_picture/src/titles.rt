@@ -33,6 +33,12 @@ fn put_asked(out: &mut String, request: &Request) -> Result<(), NoMemory>
             out.push_str("delete ")?;
             put_key(out, key)
         }
+        Request::PutAll(batch) => {
+            out.push_str("put ")?;
+            put_number(out, batch.as_slice().len() as u64)?;
+            out.push_str(" records")?;
+            Ok(())
+        }
     }
 }
 

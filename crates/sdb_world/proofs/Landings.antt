@@ -1,8 +1,8 @@
 -- What is in flight under a number, by what the code has of it.
-use Rattle.std.proofs.Common.{◌≡◌, ℕ, zero, suc, ◌≤◌, ◌<◌, List, [], ◌∷◌, length, Option, Some, None, refl, sym, ap, subst, ◌∙◌, slice_set, get_or}
+use Rattle.std.proofs.Common.{◌≡◌, ℕ, zero, suc, ◌≤◌, List, [], ◌∷◌, length, Option, Some, None, refl, sym, ap, subst, ◌∙◌, slice_set}
 use Rattle.std.specs.Prelude.{slice_get}
 use Rattle.std.specs.Option.{option_and_then}
-use Rattle.std.proofs.lemmas.Option.{slice_get_past, slice_get_read}
+use Rattle.std.proofs.lemmas.Option.{slice_get_past}
 use Rattle.sdb_types.proofs.Public.{none_some}
 use Rattle.sdb_world.specs.Types.{Request}
 use Rattle.law_runs.specs.World.{WorldAt, with_late}
@@ -23,12 +23,10 @@ leaves w number place None is at =
     (subst (λ (n : ℕ). in_flight_at n w ≡ None) (sym is) (ap (option_and_then (λ (o : Option Request). o)) at), ap (with_late w) (set_same w.flights place None at))
 
 -- The request at a place is taken out.
-pub takes_flight : (u w : WorldAt) → u ≡ w → (number place : ℕ) (here taken left : Option Request) → number ≡ suc place → place < length u.flights → here ≡ get_or u.flights place here → taken ≡ here → left ≡ None → LeavesFlight number w taken (with_late u (slice_set u.flights place left))
-takes_flight u w same number place here taken left is low read took none =
-    subst (λ (o : Option Request). LeavesFlight number w o (with_late u (slice_set u.flights place left))) (sym took)
-    (subst (λ (o : Option Request). LeavesFlight number w here (with_late u (slice_set u.flights place o))) (sym none)
-    (subst (λ (x : WorldAt). LeavesFlight number x here (with_late u (slice_set u.flights place None))) same
-    (leaves u number place here is (slice_get_read u.flights (length u.flights) place here refl low read))))
+pub takes_flight : (u w : WorldAt) → u ≡ w → (number place : ℕ) (taken : Option Request) (left : List (Option Request)) → number ≡ suc place → slice_get u.flights place ≡ Some taken → left ≡ slice_set u.flights place None → LeavesFlight number w taken (with_late u left)
+takes_flight u w same number place taken left is at rest =
+    subst (λ (fs : List (Option Request)). LeavesFlight number w taken (with_late u fs)) (sym rest)
+    (subst (λ (x : WorldAt). LeavesFlight number x taken (with_late u (slice_set u.flights place None))) same (leaves u number place taken is at))
 
 -- There is none at a place past the last.
 pub none_past : (u w : WorldAt) → u ≡ w → (number place : ℕ) → number ≡ suc place → length u.flights ≤ place → LeavesFlight number w None w

@@ -3,6 +3,7 @@
 
 mod delivery;
 mod ending;
+mod flights;
 mod perform;
 mod turns;
 mod world;

@@ -1,6 +1,6 @@
 //! One call of a client, made in some way.
 ghost use Rattle.std.specs.Prelude.{◌≡◌, ◌<◌, length};
-ghost use Rattle.sdb_types.specs.Contents.{CanAnswer};
+ghost use Rattle.sdb_types.specs.Contents.{CanAnswer, IsWellFormed};
 ghost use Rattle.sdb_stores.specs.Views.{HaveRisen};
 ghost use Rattle.sdb_model.specs.Events.{table_asked};
 ghost use Rattle.sdb_contents.specs.Board.{AreUsableFor, GoOn, IsDelivered, IsMade, how_lost as how_lost_lem, how_seen as how_seen_lem, reply_lost as reply_lost_lem};
@@ -43,6 +43,7 @@ fn reply_lost(reply: Reply) -> Reply
 /// Makes a call on the store of its table in some way, or doesn't: how it came out, and the reply that its client gets.
 pub fn perform<R: Registry>(stores: &mut R, request: &Request, way: Delivery) -> (How, Reply)
     requires some { 0 < length (R.state stores.old).views }
+    requires formed { IsWellFormed request.now }
     ensures once { IsDelivered request.now result.0 result.1 (R.state stores.old) (R.state stores.new) }
     ensures made { AreUsableFor (table_asked request.now) (R.state stores.old) → IsMade request.now result.0 result.1 (R.state stores.old) (R.state stores.new) }
     ensures lawful { CanAnswer request.now result.1 }

@@ -1,10 +1,11 @@
 //! A world, the state of a run: the clients of a script, its tables as they are now, the requests in flight, and the events so far.
 ghost use Rattle.std.specs.Prelude.{◌≡◌, ◌<◌, ◌≤◌, true, [], suc, length, Some, IfOk, OnOk, IfSome, slice_get};
+ghost use Rattle.sdb_types.specs.Contents.{IsWellFormed};
 ghost use Rattle.sdb_record.specs.Parts.{is_column_name};
 ghost use Rattle.sdb_model.specs.Catalogs.{catalog_after};
 ghost use Rattle.sdb_model.specs.Follows.{has_work as has_work_lem, texts_of};
 ghost use Rattle.sdb_contents.specs.Board.{GoOn};
-ghost use Rattle.sdb_client.specs.Execution.{IsGateAt, IsInitial, IsPlayable, flights_after};
+ghost use Rattle.sdb_client.specs.Execution.{IsGateAt, IsInitial, IsPlayable};
 ghost use Rattle.law_runs.specs.World.{IsWorld, state_of};
 ghost use Rattle.sdb_world.specs.Asked.{AsksOnce};
 ghost use Rattle.sdb_world.specs.Broken.{BreaksWithin};
@@ -12,25 +13,15 @@ ghost use Rattle.sdb_world.specs.Explained.{IsExplainedAfter};
 ghost use Rattle.sdb_world.specs.Step.{AddsTo, CanAct, HasActed, HasAltered, HasCalled, HasLeft, HasStopped, HasStarted, IsBusyAt, IsIdleAt, LeavesFlight, IsNumber, IsPendingAt, act_of};
 
 use crate::delivery::Delivery;
+use crate::flights::Flights;
 use crate::perform::perform;
 use sdb_client::{ClientSlot, Gate, fresh_slots, gate_at, prove_order};
-use sdb_model::{Act, Altered, Event, Events, How, Script, Texts};
+use sdb_model::{Act, Altered, Event, Events, Script, Texts};
 use sdb_schema::{Catalog, Column, Kind};
 use sdb_stores::{Registry, table_of};
 use sdb_types::{Duplicate, Name, NoMemory, Request, TableName, Txt};
 use std::alloc::Global;
 use std::marker::Model;
-
-// The requests in flight after a call: that of a delayed call is one more.
-fn delay(flights: &mut Vec<Option<Request>>, how: How, request: &Request) -> Result<(), NoMemory>
-    ensures { OnOk result (flights.new.items ≡ flights_after flights.old.items how request.now) }
-{
-    match how {
-        How::Delayed => flights.push(Some(request.copy()?))?,
-        How::Seen | How::Lost | How::Discarded | How::Broken => {}
-    }
-    Ok(())
-}
 
 // Adds a column to a table, or gives the number of why the catalog refuses it.
 fn add(
@@ -61,8 +52,7 @@ pub struct World {
     // The script's tables, with the columns that were added.
     catalog: Catalog,
     client_slots: Vec<ClientSlot>,
-    // The requests of the calls that were delayed, each none once it has landed.
-    flights: Vec<Option<Request>>,
+    flights: Flights,
     events: Events,
     clock: i64,
 }
@@ -88,7 +78,7 @@ impl Model for World {
 
     ghost Value = { WorldAt };
 
-    ghost view = { λ w. record { script = w.script; client_slots = w.client_slots.items; flights = w.flights.items; events = w.events; clock = w.clock } };
+    ghost view = { λ w. record { script = w.script; client_slots = w.client_slots.items; flights = w.flights; events = w.events; clock = w.clock } };
 
     ghost invariant = { λ w. w.catalog ≡ catalog_after w.script.catalog w.events };
 }
@@ -108,7 +98,7 @@ impl World {
             script,
             catalog,
             client_slots,
-            flights: Vec::new(alloc),
+            flights: Flights::new(alloc),
             events: Events::new(alloc),
             clock: 0,
         })
@@ -213,7 +203,8 @@ impl World {
     fn request(&self, at: usize) -> Result<Request, NoMemory>
         requires at { at < length self.now.client_slots }
         requires busy { IsBusyAt self.now at }
-        ensures { IfOk result (λ request. IsPendingAt self.now at request) }
+        ensures pending { IfOk result (λ request. IsPendingAt self.now at request) }
+        ensures formed { IfOk result IsWellFormed }
     {
         match self.client_slots[at].client.pending() {
             Some(request) => request.copy(),
@@ -240,7 +231,7 @@ impl World {
         let request = self.request(at)?;
         let store = stores.store_of(table_of(&request)).copy()?;
         let (how, reply) = perform(stores, &request, way);
-        delay(&mut self.flights, how, &request)?;
+        self.flights.delay(how, &request)?;
         prove_order(&reply);
         let answered = reply.copy()?;
         let answer = self.client_slots[at].client.advance(reply, self.clock);
@@ -278,11 +269,12 @@ impl World {
 
     // The request in flight of this number, if there is one: it is in flight no more.
     fn landing(&mut self, number: u32) -> Option<Request>
-        ensures { LeavesFlight number self.old result self.new }
+        ensures left { LeavesFlight number self.old result self.new }
+        ensures formed { IfSome result IsWellFormed }
     {
         let place = (number as usize).checked_sub(1)?;
         if place < self.flights.len() {
-            self.flights[place].take()
+            self.flights.take(place)
         } else {
             None
         }

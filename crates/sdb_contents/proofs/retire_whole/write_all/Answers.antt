@@ -1,10 +1,11 @@
-use Rattle.std.proofs.Common.{◌∙◌, ap}
-use Rattle.std.specs.List.{list_all}
+use Rattle.std.proofs.Common.{◌∙◌, ap, subst, sym}
+use Rattle.std.specs.List.{AllByRecursion, list_all}
 use Rattle.sdb_schema.specs.Table.{rises}
 use Rattle.sdb_catalog.specs.declared.entry.Entry.{Entry}
 use Rattle.sdb_catalog.proofs.Public.{passed_on}
-use Rattle.sdb_contents.specs.Copying.{requests_of}
+use Rattle.sdb_contents.specs.Copying.{IsOfOne, requests_of}
 use Rattle.sdb_contents.specs.Moving.{renewals}
+use Rattle.sdb_contents.proofs.Making.{renewals_one, requests_one}
 use Rattle.sdb_contents.proofs.RetireCalls.{goes_more, still_there}
 use Rattle.sdb_contents.proofs.Surveys.{both_made, halted_second, left_at, left_first, left_second, written_all}
 use Rattle.sdb_contents.proofs.retire_whole.write_all.Goals as goal
@@ -12,8 +13,14 @@ use Rattle.sdb_contents.proofs.retire_whole.write_all.Goals as goal
 pub renewals-requires : goal.renewals-requires
 renewals-requires g c = ap (list_all (λ (e : Entry). rises e.table.columns)) c.as_slice-2.ensures ∙ c.requires.columns
 
+pub run-requires : goal.run-requires
+run-requires g c = record { attached = c.requires.to; one = subst (AllByRecursion IsOfOne) (sym (c.as_slice-3.ensures ∙ c.in_ok-requests.ensures ∙ ap requests_of c.as_slice.ensures)) (requests_one c.args.survey.now.seen) }
+
 pub run-requires-2 : goal.run-requires-2
-run-requires-2 g c = record { attached = still_there (g.R.Registry.state c.args.stores.now) (g.R.Registry.state c.run.new.stores) c.args.first.now c.in_ok-run.ensures.goes c.requires.first }
+run-requires-2 g c = record {
+  attached = still_there (g.R.Registry.state c.args.stores.now) (g.R.Registry.state c.run.new.stores) c.args.first.now c.in_ok-run.ensures.goes c.requires.first;
+  one = subst (AllByRecursion IsOfOne) (sym (c.as_slice-4.ensures ∙ c.in_ok-rows.ensures ∙ ap (renewals c.args.from.now c.args.to.now) c.as_slice-2.ensures)) (renewals_one c.args.from.now c.args.to.now c.args.survey.now.entries);
+}
 
 pub returns-clause-held : goal.returns-clause-held
 returns-clause-held g c =

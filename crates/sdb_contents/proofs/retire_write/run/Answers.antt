@@ -1,7 +1,7 @@
 use Rattle.sdb_stores.specs.Views.{index_at}
 use Rattle.sdb_catalog.proofs.Public.{passed_on}
 use Rattle.sdb_contents.proofs.RetireCalls.{goes_more, still_there}
-use Rattle.sdb_contents.proofs.Making.{made_step}
+use Rattle.sdb_contents.proofs.Making.{made_step, one_at}
 use Rattle.sdb_contents.proofs.Steps.{first_step, first_taken, hold_step, unwritten_more}
 use Rattle.sdb_contents.proofs.retire_write.run.Goals as goal
 
@@ -17,7 +17,10 @@ loop-request-preserved g c =
     }
 
 pub write-requires : goal.write-requires
-write-requires g c = record { attached = still_there (g.R.Registry.state c.args.stores.now) (g.R.Registry.state c.loop-request.stores) c.args.store.now c.loop-request.invariant.goes c.requires.attached }
+write-requires g c = record {
+  attached = still_there (g.R.Registry.state c.args.stores.now) (g.R.Registry.state c.loop-request.stores) c.args.store.now c.loop-request.invariant.goes c.requires.attached;
+  one = one_at c.args.requests.now c.loop-request.request-index c.request-item.result c.loop-request-test.true c.request-item.is c.requires.one;
+}
 
 pub returns-in_err-write-clause-left : goal.returns-in_err-write-clause-left
 returns-in_err-write-clause-left g c =

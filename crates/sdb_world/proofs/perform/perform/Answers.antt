@@ -23,7 +23,7 @@ returns-in-Lose-clause-made g c = λ f.
     (subst (λ (x : Reply). IsMade c.args.request.now (how_lost r) x old new) (sym c.reply_lost.ensures) (lost c.args.request.now r old new (c.call-reply-in-Lose.ensures.called f)))
 
 pub returns-in-Discard-clause-made : goal.returns-in-Discard-clause-made
-returns-in-Discard-clause-made g c = λ f. discarded (g.R.Registry.state c.args.stores.now) c.args.request.now f
+returns-in-Discard-clause-made g c = λ f. discarded (g.R.Registry.state c.args.stores.now) c.args.request.now f c.requires.formed
 
 pub returns-in-Step-clause-allowed : goal.returns-in-Step-clause-allowed
 returns-in-Step-clause-allowed g c =
@@ -51,7 +51,7 @@ returns-in-Lose-clause-once g c =
     (subst (λ (x : Reply). IsDelivered c.args.request.now (how_lost r) x old new) (sym c.reply_lost.ensures) (once_lost c.args.request.now r old new c.call-reply-in-Lose.ensures.once))
 
 pub returns-in-Delay-clause-made : goal.returns-in-Delay-clause-made
-returns-in-Delay-clause-made g c = λ f. delayed (g.R.Registry.state c.args.stores.now) c.args.request.now f
+returns-in-Delay-clause-made g c = λ f. delayed (g.R.Registry.state c.args.stores.now) c.args.request.now f c.requires.formed
 
 pub returns-in-Delay-clause-once : goal.returns-in-Delay-clause-once
 returns-in-Delay-clause-once g c = unasked (g.R.Registry.state c.args.stores.now)

@@ -19,8 +19,8 @@ returns-clause-called g c =
     let now : to_z w64 (of_z w64 c.self.inside.clock) ≡ c.self.inside.clock = search rules in
     let answered = subst (λ (z : ℤ). ReplyPost client_slot.client client_slot.client.vacuum c.perform-how.result.1 z c.advance-answer.result c.advance-answer.new.self) now c.advance-answer.ensures in
     let came = c.in_ok-push.ensures.ok ∙ ap (λ (r : Reply). c.self.inside.events ++ event.Call (c.args.at + 1) c.in_ok-store.store c.in_ok-request.request c.perform-how.result.0 r c.advance-answer.result ∷ []) c.in_ok-answered.ensures in
-    called old (g.R.Registry.state c.perform-how.new.stores) _ c.args.self.now c.self.view_is c.args.at client_slot c.args.way c.in_ok-store.store c.in_ok-request.request c.perform-how.result.0 c.perform-how.result.1 c.advance-answer.result c.advance-answer.new.self c.delay.new.flights.items c.push.new.self
-    c.requires.at read c.in_ok-request.ensures c.perform-how.ensures.lawful c.perform-how.ensures.allowed c.prove_order.ensures answered
+    called old (g.R.Registry.state c.perform-how.new.stores) _ c.args.self.now c.self.view_is c.args.at client_slot c.args.way c.in_ok-store.store c.in_ok-request.request c.perform-how.result.0 c.perform-how.result.1 c.advance-answer.result c.advance-answer.new.self c.delay.new.self c.push.new.self
+    c.requires.at read c.in_ok-request.ensures.pending c.perform-how.ensures.lawful c.perform-how.ensures.allowed c.prove_order.ensures answered
     (λ f about. (c.in_ok-store.ensures ∙ named_store old c.in_ok-request.request c.table_of.result.now c.store_of.result.now c.table_of.ensures c.store_of.ensures f, c.perform-how.ensures.made (fit_for c.args.self.now.script.catalog old (table_asked c.in_ok-request.request) about f)))
     c.in_ok-delay.ensures came
 

@@ -12,30 +12,30 @@ use Rattle.sdb_world.proofs.world.World.land.Goals as goal
 
 pub returns-in_ok-push-in-None-clause-world : goal.returns-in_ok-push-in-None-clause-world
 returns-in_ok-push-in-None-clause-world g c =
-    let left = left_by c.args.number c.args.self.now c.landing.new.self c.landing.result None c.in-None.is c.landing.ensures in
+    let left = left_by c.args.number c.args.self.now c.landing.new.self c.landing.result None c.in-None.is c.landing.ensures.left in
     (goes_none (g.R.Registry.state c.args.stores.now) _ c.landing.new.self c.args.self.now c.args.number c.push.new.self c.requires.world c.self.view_is left c.in_ok-push-in-None.ensures.ok).0
 
 pub returns-in_ok-push-in-None-clause-acted : goal.returns-in_ok-push-in-None-clause-acted
 returns-in_ok-push-in-None-clause-acted g c =
-    let left = left_by c.args.number c.args.self.now c.landing.new.self c.landing.result None c.in-None.is c.landing.ensures in
+    let left = left_by c.args.number c.args.self.now c.landing.new.self c.landing.result None c.in-None.is c.landing.ensures.left in
     (goes_none (g.R.Registry.state c.args.stores.now) _ c.landing.new.self c.args.self.now c.args.number c.push.new.self c.requires.world c.self.view_is left c.in_ok-push-in-None.ensures.ok).1
 
 pub returns-in_ok-push-in-None-clause-asked : goal.returns-in_ok-push-in-None-clause-asked
 returns-in_ok-push-in-None-clause-asked g c =
     let held = g.R.Registry.state c.args.stores.now in
-    let left = left_by c.args.number c.args.self.now c.landing.new.self c.landing.result None c.in-None.is c.landing.ensures in
+    let left = left_by c.args.number c.args.self.now c.landing.new.self c.landing.result None c.in-None.is c.landing.ensures.left in
     asks_pushed _ c.args.self.now (c.self.view_is ∙ left.1) c.push.new.self (event.Idle 0) held held c.in_ok-push-in-None.ensures.ok (unasked held)
 
 pub returns-in_ok-push-in-None-clause-broken : goal.returns-in_ok-push-in-None-clause-broken
 returns-in_ok-push-in-None-clause-broken g c =
-    let left = left_by c.args.number c.args.self.now c.landing.new.self c.landing.result None c.in-None.is c.landing.ensures in
+    let left = left_by c.args.number c.args.self.now c.landing.new.self c.landing.result None c.in-None.is c.landing.ensures.left in
     breaks_pushed _ c.args.self.now (c.self.view_is ∙ left.1) c.push.new.self (event.Idle 0) (g.R.Registry.state c.args.stores.now).views c.in_ok-push-in-None.ensures.ok refl
 
 pub returns-in_ok-push-in-Some-clause-world : goal.returns-in_ok-push-in-Some-clause-world
 returns-in_ok-push-in-Some-clause-world g c =
     let old = g.R.Registry.state c.args.stores.now in
     let new = g.R.Registry.state c.perform-how.new.stores in
-    let left = left_by c.args.number c.args.self.now c.landing.new.self c.landing.result (Some c.in-Some.request) c.in-Some.is c.landing.ensures in
+    let left = left_by c.args.number c.args.self.now c.landing.new.self c.landing.result (Some c.in-Some.request) c.in-Some.is c.landing.ensures.left in
     let q = c.in-Some.request in
     let made = c.perform-how.ensures in
     (acts_land old new c.args.self.now _ c.args.number c.requires.world
@@ -47,7 +47,7 @@ pub returns-in_ok-push-in-Some-clause-acted : goal.returns-in_ok-push-in-Some-cl
 returns-in_ok-push-in-Some-clause-acted g c =
     let old = g.R.Registry.state c.args.stores.now in
     let new = g.R.Registry.state c.perform-how.new.stores in
-    let left = left_by c.args.number c.args.self.now c.landing.new.self c.landing.result (Some c.in-Some.request) c.in-Some.is c.landing.ensures in
+    let left = left_by c.args.number c.args.self.now c.landing.new.self c.landing.result (Some c.in-Some.request) c.in-Some.is c.landing.ensures.left in
     let q = c.in-Some.request in
     let made = c.perform-how.ensures in
     (acts_land old new c.args.self.now _ c.args.number c.requires.world
@@ -57,11 +57,11 @@ returns-in_ok-push-in-Some-clause-acted g c =
 
 pub returns-in_ok-push-in-Some-clause-asked : goal.returns-in_ok-push-in-Some-clause-asked
 returns-in_ok-push-in-Some-clause-asked g c =
-    let left = left_by c.args.number c.args.self.now c.landing.new.self c.landing.result (Some c.in-Some.request) c.in-Some.is c.landing.ensures in
+    let left = left_by c.args.number c.args.self.now c.landing.new.self c.landing.result (Some c.in-Some.request) c.in-Some.is c.landing.ensures.left in
     asks_landed _ _ (c.self.view_is ∙ left.3) c.push-in-Some.new.self c.args.number c.in_ok-store-in-Some.store c.in-Some.request c.perform-how.result.0 c.perform-how.result.1 (g.R.Registry.state c.args.stores.now) (g.R.Registry.state c.perform-how.new.stores) c.in_ok-push-in-Some.ensures.ok c.perform-how.ensures.once
 
 pub returns-in_ok-push-in-Some-clause-broken : goal.returns-in_ok-push-in-Some-clause-broken
 returns-in_ok-push-in-Some-clause-broken g c =
-    let left = left_by c.args.number c.args.self.now c.landing.new.self c.landing.result (Some c.in-Some.request) c.in-Some.is c.landing.ensures in
+    let left = left_by c.args.number c.args.self.now c.landing.new.self c.landing.result (Some c.in-Some.request) c.in-Some.is c.landing.ensures.left in
     let made = c.perform-how.ensures in
     breaks_landed _ _ (c.self.view_is ∙ left.3) c.push-in-Some.new.self c.args.number c.in_ok-store-in-Some.store c.in-Some.request c.perform-how.result.0 c.perform-how.result.1 (g.R.Registry.state c.args.stores.now).views (g.R.Registry.state c.perform-how.new.stores).views c.in_ok-push-in-Some.ensures.ok made.broken made.goes.counted

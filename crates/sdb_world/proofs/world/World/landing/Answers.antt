@@ -1,15 +1,14 @@
-use Rattle.std.proofs.Common.{rules, ◌≡◌, ◌<◌, ◌≤◌, length, suc}
+use Rattle.std.proofs.Common.{rules, ◌≡◌, ◌≤◌, length, suc}
 use Rattle.sdb_world.proofs.Landings.{none_past, takes_flight}
 use Rattle.sdb_world.proofs.world.World.landing.Goals as goal
 
-pub returns-then-place-len : goal.returns-then-place-len
-returns-then-place-len c =
+pub returns-then-place-len-clause-left : goal.returns-then-place-len-clause-left
+returns-then-place-len-clause-left c =
     let is : c.args.number ≡ suc c.in_ok-place.place = search rules in
-    let low : c.in_ok-place.place < length c.self.inside.flights.items = search rules in
-    takes_flight _ c.args.self.now c.self.view_is c.args.number c.in_ok-place.place c.index_mut.result.now c.take.result c.take.new.self is low c.index_mut.ensures.value c.take.ensures.value c.take.ensures.after
+    takes_flight _ c.args.self.now c.self.view_is c.args.number c.in_ok-place.place c.take.result c.take.new.self is c.take.ensures.taken c.take.ensures.left
 
-pub returns-else-place-len : goal.returns-else-place-len
-returns-else-place-len c =
+pub returns-else-place-len-clause-left : goal.returns-else-place-len-clause-left
+returns-else-place-len-clause-left c =
     let is : c.args.number ≡ suc c.in_ok-place.place = search rules in
-    let past : length c.self.inside.flights.items ≤ c.in_ok-place.place = search rules in
+    let past : length c.self.inside.flights ≤ c.in_ok-place.place = search rules in
     none_past _ c.args.self.now c.self.view_is c.args.number c.in_ok-place.place is past

@@ -30,7 +30,7 @@ returns-clause-world g c =
     let same : to_z w64 (of_z w64 c.in-Clock.moment) ≡ c.in-Clock.moment = search rules in
     let came = c.in_ok-push-in-Clock.ensures.ok ∙ ap (λ (m : ℤ). c.self.inside.events ++ event.Clock m ∷ []) same in
     let held = g.R.Registry.state c.args.stores.now in
-    (subst (λ (z : ℤ). Came held held c.args.self.now c.args.act (record { script = c.self.inside.script; client_slots = c.self.inside.client_slots.items; flights = c.self.inside.flights.items; events = c.push.new.self; clock = z })) (sym same)
+    (subst (λ (z : ℤ). Came held held c.args.self.now c.args.act (record { script = c.self.inside.script; client_slots = c.self.inside.client_slots.items; flights = c.self.inside.flights; events = c.push.new.self; clock = z })) (sym same)
     (goes_clock held _ c.args.self.now c.self.view_is c.push.new.self c.args.act c.in-Clock.moment c.requires.world c.in-Clock.is c.requires.act came)).0
 
 pub returns-clause-acted : goal.returns-clause-acted
@@ -38,7 +38,7 @@ returns-clause-acted g c =
     let same : to_z w64 (of_z w64 c.in-Clock.moment) ≡ c.in-Clock.moment = search rules in
     let came = c.in_ok-push-in-Clock.ensures.ok ∙ ap (λ (m : ℤ). c.self.inside.events ++ event.Clock m ∷ []) same in
     let held = g.R.Registry.state c.args.stores.now in
-    (subst (λ (z : ℤ). Came held held c.args.self.now c.args.act (record { script = c.self.inside.script; client_slots = c.self.inside.client_slots.items; flights = c.self.inside.flights.items; events = c.push.new.self; clock = z })) (sym same)
+    (subst (λ (z : ℤ). Came held held c.args.self.now c.args.act (record { script = c.self.inside.script; client_slots = c.self.inside.client_slots.items; flights = c.self.inside.flights; events = c.push.new.self; clock = z })) (sym same)
     (goes_clock held _ c.args.self.now c.self.view_is c.push.new.self c.args.act c.in-Clock.moment c.requires.world c.in-Clock.is c.requires.act came)).1
 
 pub returns-in-Step-clause-explained : goal.returns-in-Step-clause-explained
@@ -73,7 +73,7 @@ returns-clause-explained g c =
     let came = c.in_ok-push-in-Clock.ensures.ok ∙ ap (λ (m : ℤ). c.self.inside.events ++ event.Clock m ∷ []) same in
     let held = g.R.Registry.state c.args.stores.now in
     came_explained held held c.args.self.now _ c.args.act
-    (subst (λ (z : ℤ). Came held held c.args.self.now c.args.act (record { script = c.self.inside.script; client_slots = c.self.inside.client_slots.items; flights = c.self.inside.flights.items; events = c.push.new.self; clock = z })) (sym same)
+    (subst (λ (z : ℤ). Came held held c.args.self.now c.args.act (record { script = c.self.inside.script; client_slots = c.self.inside.client_slots.items; flights = c.self.inside.flights; events = c.push.new.self; clock = z })) (sym same)
     (goes_clock held _ c.args.self.now c.self.view_is c.push.new.self c.args.act c.in-Clock.moment c.requires.world c.in-Clock.is c.requires.act came))
 
 pub returns-in-Alter-clause-world : goal.returns-in-Alter-clause-world
