@@ -40,6 +40,7 @@ got_none events row at n (ask.Get key) (reply.Found None) h =
     (ap ask.Get (same_key_exact key row (left (same_key key row) (not (is_expired at (clock_at events n))) h)), refl, not_true (is_expired at (clock_at events n)) (right (same_key key row) (not (is_expired at (clock_at events n))) h))
 got_none events row at n (ask.Get key) (reply.Found (Some x)) h = clash (sym h)
 got_none events row at n (ask.Get key) (reply.Rows rows) h = clash (sym h)
+got_none events row at n (ask.Get key) (reply.NotAll place there) h = clash (sym h)
 got_none events row at n (ask.Get key) reply.Applied h = clash (sym h)
 got_none events row at n (ask.Get key) (reply.NotMet found) h = clash (sym h)
 got_none events row at n (ask.Get key) reply.Fault h = clash (sym h)
@@ -47,6 +48,7 @@ got_none events row at n (ask.Get key) reply.NoMemory h = clash (sym h)
 got_none events row at n (ask.Scan span) r h = clash (sym h)
 got_none events row at n (ask.PutIf rec condition) r h = clash (sym h)
 got_none events row at n (ask.DeleteIf key condition) r h = clash (sym h)
+got_none events row at n (ask.PutAll batch) r h = clash (sym h)
 
 none_got : (events : List Event) (row : Key) (at : ℤ) (n : ℕ) (q : Request) (r : Reply) → q ≡ ask.Get row → r ≡ reply.Found None → is_expired at (clock_at events n) ≡ false → gets_none events row at n q r ≡ true
 none_got events row at n q r e f h =

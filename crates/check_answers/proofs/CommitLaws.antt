@@ -39,6 +39,7 @@ is_decided_of wanted (Some d) h = ap (λ x. same_decision x wanted) h ∙ decisi
 fault_is : (r : Reply) → is_fault r ≡ true → r ≡ reply.Fault
 fault_is (reply.Found found) h = clash (sym h)
 fault_is (reply.Rows rows) h = clash (sym h)
+fault_is (reply.NotAll place there) h = clash (sym h)
 fault_is reply.Applied h = clash (sym h)
 fault_is (reply.NotMet found) h = clash (sym h)
 fault_is reply.Fault h = refl
@@ -47,6 +48,7 @@ fault_is reply.NoMemory h = clash (sym h)
 failed_is : (r : Reply) → has_failed r ≡ true → (r ≡ reply.Fault) ⊎ (r ≡ reply.NoMemory)
 failed_is (reply.Found found) h = clash (sym h)
 failed_is (reply.Rows rows) h = clash (sym h)
+failed_is (reply.NotAll place there) h = clash (sym h)
 failed_is reply.Applied h = clash (sym h)
 failed_is (reply.NotMet found) h = clash (sym h)
 failed_is reply.Fault h = inl refl

@@ -12,19 +12,18 @@ use Rattle.sdb_record.specs.Moved.{is_unchanged, same_version, version_of}
 use Rattle.sdb_record.specs.Parts.{before_part, before_record, record_with}
 use Rattle.sdb_record.specs.Among.{version_among}
 use Rattle.sdb_model.specs.Calls as calls
-use Rattle.sdb_model.specs.Calls.{calls_of, put_by}
+use Rattle.sdb_model.specs.Calls.{calls_of}
 use Rattle.sdb_model.specs.Causes.{HasChanged, IsChecked, IsConflict, IsConflictAtCommit, IsConflictAtScan, IsRebased, IsUnmet, ReadObserves, prepares_key}
 use Rattle.sdb_model.specs.ReadSet.{ReadItem, KeyRead, SpanRead, meaning_of, read_set_of, version_read}
 use Rattle.sdb_model.specs.Sql.{reads_commit}
-use Rattle.sdb_model.specs.Requests.{records_put}
+use Rattle.sdb_model.specs.Requests.{observed_in, records_put}
 use Rattle.sdb_model.specs.Transactions.{Executed, is_prepared_record}
-use Rattle.sdb_model.proofs.Public.{in_only, only_put, PreparesAt, observed_unmet, unmet_observed}
-use Rattle.check_protocol.proofs.Public.{any_some, In, none_some, not_true, or_left, right, some_any, true_not}
+use Rattle.check_protocol.proofs.Public.{any_some, In, not_true, or_left, right, some_any, true_not}
 use Rattle.check_tables.specs.Values.{all_made, made_of}
-use Rattle.check_answers.specs.Tests.{any_id, base_put, conflict_at_commit, conflict_at_scan, conflict_of, get_observes, has_changed_from, has_prepared, is_commit_of, is_found_by, is_in, is_changed, is_rebased, is_unmet, not_met_as, read_observes, same_found, scan_differs, scan_observes, scan_observes_by, means, means_by}
+use Rattle.check_answers.specs.Tests.{any_id, base_put, conflict_at_commit, conflict_at_scan, conflict_of, get_observes, has_changed_from, has_prepared, is_commit_of, is_found_by, is_in, is_changed, is_rebase, is_rebased, is_unmet, observes, read_observes, same_found, scan_differs, scan_observes, scan_observes_by, means, means_by}
 use Rattle.check_answers.proofs.Finds.{in_contains, contains_in, made_contained, contained_made, found_is, is_found}
 use Rattle.check_answers.proofs.IdLaws.{commit_is, is_commit, in_is, is_in_of, id_some, commit_found, in_found}
-use Rattle.sdb_types.proofs.Public.{and_both as both, and_first as left, clash, either, or_second as or_right, same_key_exact, same_key_of, some_is}
+use Rattle.sdb_types.proofs.Public.{and_both as both, and_first as left, clash, either, or_second as or_right, same_key_exact, same_key_of}
 use Rattle.sdb_types.specs.Order.{same_key}
 
 ---- what was noted
@@ -48,20 +47,22 @@ is_moved_of read_set key found (item, version, c, e, h) =
 
 ---- what calls show
 
-met_is : (r : Reply) (found : Option Record) → not_met_as r found ≡ true → r ≡ reply.NotMet found
-met_is (reply.NotMet x) found h = ap (λ y. reply.NotMet y) (found_is x found h)
-met_is (reply.Found x) found h = clash (sym h)
-met_is (reply.Rows rows) found h = clash (sym h)
-met_is reply.Applied found h = clash (sym h)
-met_is reply.Fault found h = clash (sym h)
-met_is reply.NoMemory found h = clash (sym h)
+observed_is : (key : Key) (found : Option Record) (q : Request) (r : Reply) → observes q r key found ≡ true → Contains (observed_in q r) (key, found)
+observed_is key found q r h =
+    let s = any_some (λ (s : Key × Option Record). same_key s.0 key && same_found s.1 found) (observed_in q r) h in
+    let at = same_key_exact s.0.0 key (left (same_key s.0.0 key) (same_found s.0.1 found) s.2) in
+    let there = found_is s.0.1 found (right (same_key s.0.0 key) (same_found s.0.1 found) s.2) in
+    subst (λ x. Contains (observed_in q r) x) (λ i. (at i, there i)) (in_contains (observed_in q r) s.0 s.1)
 
-is_met : (r : Reply) (found : Option Record) → r ≡ reply.NotMet found → not_met_as r found ≡ true
-is_met r found e = ap (λ x. not_met_as x found) e ∙ is_found found found refl
+is_observed : (key : Key) (found : Option Record) (q : Request) (r : Reply) → Contains (observed_in q r) (key, found) → observes q r key found ≡ true
+is_observed key found q r c =
+    some_any (λ (s : Key × Option Record). same_key s.0 key && same_found s.1 found) (observed_in q r) (key, found) (contains_in (observed_in q r) (key, found) c)
+    (both (same_key key key) (same_found found found) (same_key_of key key refl) (is_found found found refl))
 
 gets_is : (key : Key) (found : Option Record) (q : Request) (r : Reply) → get_observes q r key found ≡ true → (q ≡ ask.Get key) × (r ≡ reply.Found found)
 gets_is key found (ask.Get k) (reply.Found x) h = (ap (λ y. ask.Get y) (same_key_exact k key (left (same_key k key) (same_found x found) h)), ap (λ y. reply.Found y) (found_is x found (right (same_key k key) (same_found x found) h)))
 gets_is key found (ask.Get k) (reply.Rows rows) h = clash (sym h)
+gets_is key found (ask.Get k) (reply.NotAll place there) h = clash (sym h)
 gets_is key found (ask.Get k) reply.Applied h = clash (sym h)
 gets_is key found (ask.Get k) (reply.NotMet x) h = clash (sym h)
 gets_is key found (ask.Get k) reply.Fault h = clash (sym h)
@@ -69,6 +70,7 @@ gets_is key found (ask.Get k) reply.NoMemory h = clash (sym h)
 gets_is key found (ask.Scan span) r h = clash (sym h)
 gets_is key found (ask.PutIf rec condition) r h = clash (sym h)
 gets_is key found (ask.DeleteIf k condition) r h = clash (sym h)
+gets_is key found (ask.PutAll batch) r h = clash (sym h)
 
 is_gets : (key : Key) (found : Option Record) (q : Request) (r : Reply) → q ≡ ask.Get key → r ≡ reply.Found found → get_observes q r key found ≡ true
 is_gets key found q r e f = ap (λ x. get_observes x r key found) e ∙ ap (λ x. get_observes (ask.Get key) x key found) f ∙ both (same_key key key) (same_found found found) (same_key_of key key refl) (is_found found found refl)
@@ -82,11 +84,13 @@ scans_is key found (ask.Scan span) (reply.Rows rows) h =
 scans_is key found (ask.Scan span) (reply.Found x) h = clash (sym h)
 scans_is key found (ask.Scan span) reply.Applied h = clash (sym h)
 scans_is key found (ask.Scan span) (reply.NotMet x) h = clash (sym h)
+scans_is key found (ask.Scan span) (reply.NotAll place there) h = clash (sym h)
 scans_is key found (ask.Scan span) reply.Fault h = clash (sym h)
 scans_is key found (ask.Scan span) reply.NoMemory h = clash (sym h)
 scans_is key found (ask.Get k) r h = clash (sym h)
 scans_is key found (ask.PutIf rec condition) r h = clash (sym h)
 scans_is key found (ask.DeleteIf k condition) r h = clash (sym h)
+scans_is key found (ask.PutAll batch) r h = clash (sym h)
 
 is_scans : (key : Key) (found : Option Record) (q : Request) (r : Reply) → Scans (λ rows. record_among rows key) q r key found → scan_observes_by q r key found ≡ true
 is_scans key found q r (span, rows, e, i, f, g) =
@@ -117,26 +121,6 @@ kept_version r = by (before_part r.columns)
     by [] = refl
     by (p ∷ ps) = refl
 
-abbrev base_in : Request → Option TxId
-base_in q = option_and_then (λ r. id_in (before_part r.columns)) (put_by q)
-
-puts_is : (id : TxId) (key : Key) (q : Request) → PreparesAt id key q → (r : Record) × Contains (records_put q) r × (is_prepared_record id r ≡ true) × (r.key ≡ key) × (version_of (before_record r) ≡ base_in q)
-puts_is id key (ask.PutIf rec condition) h =
-    let p = is_prepared_record id rec in
-    let k = same_key rec.key key in
-    (rec, in_only rec rec refl, left p k h, same_key_exact rec.key key (right p k h), sym (kept_version rec))
-puts_is id key (ask.Get k) h = clash (sym h)
-puts_is id key (ask.Scan span) h = clash (sym h)
-puts_is id key (ask.DeleteIf k condition) h = clash (sym h)
-
-is_puts : (id : TxId) (key : Key) (q : Request) (r : Record) → put_by q ≡ Some r → is_prepared_record id r ≡ true → r.key ≡ key → PreparesAt id key q
-is_puts id key (ask.PutIf rec condition) r e p k =
-    let same = some_is rec r e in
-    both (is_prepared_record id rec) (same_key rec.key key) (ap (is_prepared_record id) same ∙ p) (same_key_of rec.key key (ap (λ (x : Record). x.key) same ∙ k))
-is_puts id key (ask.Get k) r e p h = none_some e
-is_puts id key (ask.Scan span) r e p h = none_some e
-is_puts id key (ask.DeleteIf k condition) r e p h = none_some e
-
 differs_is : (key : Key) (base : Option TxId) (n : ReadItem) → scan_differs key base n ≡ true → (scan : Scan) × (n ≡ SpanRead scan) × (in_span scan.span key ≡ true) × (same_version base (version_among scan.found key) ≡ false)
 differs_is key base (KeyRead read) h = clash (sym h)
 differs_is key base (SpanRead scan) h = (scan, refl, left (in_span scan.span key) (not (same_version base (version_among scan.found key))) h, not_true (same_version base (version_among scan.found key)) (right (in_span scan.span key) (not (same_version base (version_among scan.found key))) h))
@@ -150,46 +134,47 @@ module _ (events : List Event) (ms : List Made) (client : ℕ) (s : Executed) (e
 
   rebased_is : (read_set : List ReadItem) (id : TxId) → is_rebased ms read_set id key ≡ true → IsRebased (calls_of events client s) read_set id key
   rebased_is read_set id h =
-      let f : Made → Bool = λ p. prepares_key id key (made_of p) && list_any (scan_differs key (base_put p)) read_set in
-      let r = any_some f ms h in
-      let p = r.0 in
-      let l = list_any (scan_differs key (base_put p)) read_set in
-      let at = left (prepares_key id key (made_of p)) l r.2 in
-      let n = any_some (scan_differs key (base_put p)) read_set (right (prepares_key id key (made_of p)) l r.2) in
-      let d = differs_is key (base_put p) n.0 n.2 in
-      let put = puts_is id key p.request at in (
-        made_of p,
-        base_put p,
+      let p = any_some (λ (m : Made). list_any (is_rebase read_set id key) (records_put m.request)) ms h in
+      let r = any_some (is_rebase read_set id key) (records_put p.0.request) p.2 in
+      let x = r.0 in
+      let l = list_any (scan_differs key (base_put x)) read_set in
+      let at = left (is_prepared_record id x && same_key x.key key) l r.2 in
+      let n = any_some (scan_differs key (base_put x)) read_set (right (is_prepared_record id x && same_key x.key key) l r.2) in
+      let d = differs_is key (base_put x) n.0 n.2 in (
+        made_of p.0,
+        base_put x,
         version_among d.0.found key,
-        contained p r.1,
-        put,
-        (d.0, in_contains read_set (SpanRead d.0) (subst (λ x. In read_set x) d.1 n.1), d.2, refl),
+        contained p.0 p.1,
+        (x, in_contains (records_put p.0.request) x r.1, left (is_prepared_record id x) (same_key x.key key) at, same_key_exact x.key key (right (is_prepared_record id x) (same_key x.key key) at), sym (kept_version x)),
+        (d.0, in_contains read_set (SpanRead d.0) (subst (λ y. In read_set y) d.1 n.1), d.2, refl),
         d.3,
       )
 
   is_rebased_of : (read_set : List ReadItem) (id : TxId) → IsRebased (calls_of events client s) read_set id key → is_rebased ms read_set id key ≡ true
   is_rebased_of read_set id (prepare, base, version, c, (r, put, p, k, b), (scan, n, i, v), d) =
       let m = made prepare c in
-      let q : put_by m.0.request ≡ Some r = sym (ap (λ (x : calls.StoreCall). put_by x.request) m.2) ∙ only_put prepare.request r put in
-      let same : base_put m.0 ≡ base = ap (option_and_then (λ (x : Record). id_in (before_part x.columns))) q ∙ kept_version r ∙ b in
-      some_any (λ (x : Made). prepares_key id key (made_of x) && list_any (scan_differs key (base_put x)) read_set) ms m.0 m.1
-      (both (prepares_key id key (made_of m.0)) (list_any (scan_differs key (base_put m.0)) read_set)
-      (is_puts id key m.0.request r q p k)
-      (some_any (scan_differs key (base_put m.0)) read_set (SpanRead scan) (contains_in read_set (SpanRead scan) n)
-      (both (in_span scan.span key) (not (same_version (base_put m.0) (version_among scan.found key))) i (true_not (same_version (base_put m.0) (version_among scan.found key)) (ap (λ x. same_version x (version_among scan.found key)) same ∙ ap (same_version base) v ∙ d)))))
+      let there : In (records_put m.0.request) r = contains_in (records_put m.0.request) r (subst (λ (x : calls.StoreCall). Contains (records_put x.request) r) m.2 put) in
+      let same : base_put r ≡ base = kept_version r ∙ b in
+      some_any (λ (x : Made). list_any (is_rebase read_set id key) (records_put x.request)) ms m.0 m.1
+      (some_any (is_rebase read_set id key) (records_put m.0.request) r there
+      (both (is_prepared_record id r && same_key r.key key) (list_any (scan_differs key (base_put r)) read_set)
+      (both (is_prepared_record id r) (same_key r.key key) p (same_key_of r.key key k))
+      (some_any (scan_differs key (base_put r)) read_set (SpanRead scan) (contains_in read_set (SpanRead scan) n)
+      (both (in_span scan.span key) (not (same_version (base_put r) (version_among scan.found key))) i (true_not (same_version (base_put r) (version_among scan.found key)) (ap (λ x. same_version x (version_among scan.found key)) same ∙ ap (same_version base) v ∙ d))))))
 
   unmet_is : (id : TxId) → list_any (is_unmet id key found) ms ≡ true → IsUnmet (calls_of events client s) id key found
   unmet_is id h =
       let r = any_some (is_unmet id key found) ms h in
       let p = prepares_key id key (made_of r.0) in
-      let n = not_met_as r.0.reply found in
-      (made_of r.0, contained r.0 r.1, left p n r.2, unmet_observed id key found r.0.request r.0.reply (left p n r.2) (met_is r.0.reply found (right p n r.2)))
+      let n = observes r.0.request r.0.reply key found in
+      (made_of r.0, contained r.0 r.1, left p n r.2, observed_is key found r.0.request r.0.reply (right p n r.2))
 
   is_unmet_of : (id : TxId) → IsUnmet (calls_of events client s) id key found → list_any (is_unmet id key found) ms ≡ true
   is_unmet_of id (c, k, p, n) =
       let m = made c k in
       some_any (is_unmet id key found) ms m.0 m.1
-      (both (prepares_key id key (made_of m.0)) (not_met_as m.0.reply found) (sym (ap (prepares_key id key) m.2) ∙ p) (is_met m.0.reply found (sym (ap (λ (x : calls.StoreCall). x.reply) m.2) ∙ observed_unmet id key found c.request c.reply p n)))
+      (both (prepares_key id key (made_of m.0)) (observes m.0.request m.0.reply key found) (sym (ap (prepares_key id key) m.2) ∙ p)
+      (is_observed key found m.0.request m.0.reply (subst (λ (x : calls.StoreCall). Contains (observed_in x.request x.reply) (key, found)) m.2 n)))
 
   -- a key is prepared by the calls, seen either way
   prepared_as : (id : TxId) → list_any (prepares_key id key) (calls_of events client s) ≡ has_prepared ms id key
@@ -251,11 +236,13 @@ module _ (events : List Event) (ms : List Made) (client : ℕ) (s : Executed) (e
   means_is (ask.Scan span) (reply.Found x) h = clash (sym h)
   means_is (ask.Scan span) reply.Applied h = clash (sym h)
   means_is (ask.Scan span) (reply.NotMet x) h = clash (sym h)
+  means_is (ask.Scan span) (reply.NotAll place there) h = clash (sym h)
   means_is (ask.Scan span) reply.Fault h = clash (sym h)
   means_is (ask.Scan span) reply.NoMemory h = clash (sym h)
   means_is (ask.Get k) r h = clash (sym h)
   means_is (ask.PutIf rec condition) r h = clash (sym h)
   means_is (ask.DeleteIf k condition) r h = clash (sym h)
+  means_is (ask.PutAll batch) r h = clash (sym h)
 
   is_means : (q : Request) (r : Reply) → Scans (look (all_made ms)) q r key found → means_by ms key found q r ≡ true
   is_means q r (span, rows, a, i, b, g) =

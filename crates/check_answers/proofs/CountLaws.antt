@@ -1,16 +1,17 @@
 -- The tests of counts hold exactly where the calls are counted.
 use Rattle.std.proofs.Common.{◌≡◌, ℕ, zero, suc, ◌+◌, ◌-◌, ◌*◌, ◌≤◌, ◌<◌, Bool, true, false, List, [], ◌∷◌, length, Option, Some, None, refl, sym, ap, ◌∙◌, arith, subst, inl, inr}
-use Rattle.std.specs.Prelude.{◌↔◌, ◌&&◌, ◌||◌, ◌==◌, not, nat_le, All, IsTrue, count_by, filter, flat_map, cond, if◌then◌else◌}
+use Rattle.std.specs.Prelude.{◌↔◌, ◌&&◌, ◌||◌, not, All, IsTrue, count_by, filter, flat_map, sum_by, cond, if◌then◌else◌}
 use Rattle.std.proofs.lemmas.List.{length-append, length-map}
 use Rattle.std.proofs.lemmas.List.Elements.{filter-append}
-use Rattle.std.proofs.lemmas.Bool.Decides.{nat_tests}
+use Rattle.std.proofs.lemmas.List.Sums.{sum_by-cons}
 use Rattle.check_answers.specs.Types.{Answer, Event, Made, Table, TxId}
 use Rattle.sdb_record.specs.Meta.{is_unresolved}
 use Rattle.sdb_model.specs.declared.answer.Answer.TheVariants as answer
 use Rattle.sdb_model.specs.Calls as calls
 use Rattle.sdb_model.specs.Calls.{calls_of, is_removal, records_read}
 use Rattle.sdb_model.specs.Causes.{IsCommitOf}
-use Rattle.sdb_model.specs.Counted.{IsCommitCounted, IsReadCounted, IsVacuumCounted, calls_wanted, is_checked_get, is_key_of, is_scan, is_seen, prepares_in, unresolved_in}
+use Rattle.sdb_model.specs.Counted.{IsCommitCounted, IsReadCounted, IsVacuumCounted, checks_wanted, is_checked_get, is_key_of, is_scan, is_seen, prepares_in, puts_prepared, unresolved_in}
+use Rattle.sdb_model.specs.Requests.{records_put}
 use Rattle.sdb_model.specs.ReadSet.{ReadItem, KeyRead, SpanRead, read_set_of, reads_rows}
 use Rattle.sdb_model.specs.Sql.{reads_commit, reads_vacuum}
 use Rattle.sdb_model.specs.Transactions.{Executed, id_of, prepares, statements_by, is_committed_answer}
@@ -19,15 +20,9 @@ use Rattle.check_tables.specs.Values.{all_made, made_of}
 use Rattle.check_answers.specs.Tests.{any_id, any_upto, is_commit_of}
 use Rattle.check_answers.proofs.Finds.{in_made, made_in, in_contains}
 use Rattle.check_answers.proofs.IdLaws.{commit_found, commit_is, is_commit, id_some, upto_step}
-use Rattle.check_answers.specs.Counts.{IsExecutedCounted, all_seen, commit_counted, covered, is_check, miscounted, others_counted, read_counted, unresolved_by, vacuum_counted, wanted}
+use Rattle.check_answers.specs.Counts.{IsExecutedCounted, all_seen, as_many, at_most, checks_by, commit_counted, covered, is_check, is_put_for, miscounted, others_counted, prepares_by, puts_by, read_counted, unresolved_by, vacuum_counted}
 use Rattle.check_answers.proofs.Maps.{any_kept, count_both, count_mapped, filter_count, kept_count}
 use Rattle.sdb_types.proofs.Public.{and_both as both, and_first as left, clash, decides as decide, either, or_second as or_right}
-
-le_is : (a b : ℕ) → nat_le a b ≡ true → a ≤ b
-le_is a b h = grind (arith, nat_tests, h)
-
-is_le : (a b : ℕ) → a ≤ b → nat_le a b ≡ true
-is_le a b h = grind (arith, nat_tests, h)
 
 all_of : {X : Type 0} (P : X → Type 0) (xs : List X) → ((x : X) → In xs x → P x) → All P xs
 all_of P [] h k d lt = absurd (omega (arith, lt))
@@ -36,12 +31,11 @@ all_of P (x ∷ xs) h (suc k) d lt = all_of P xs (λ y i. h y (inr i)) k d (omeg
 
 ---- the calls of a COMMIT
 
-wanted_is : (events : List Event) (id : TxId) (ms : List Made) → calls_wanted events id (all_made ms) ≡ wanted ms (read_set_of events id) id
-wanted_is events id ms =
-    let p : length (prepares_in id (all_made ms)) ≡ count_by (λ m. prepares id m.request) ms = kept_count (λ m. prepares id m.request) made_of ms in
-    let c : count_by (is_checked_get (prepares_in id (all_made ms))) (read_set_of events id) + count_by is_scan (read_set_of events id) ≡ count_by (is_check ms id) (read_set_of events id)
-    = count_both (is_checked_get (prepares_in id (all_made ms))) is_scan (is_check ms id) item (read_set_of events id) in
-    omega (arith, p, c)
+prepares_are : (id : TxId) (ms : List Made) → length (prepares_in id (all_made ms)) ≡ prepares_by ms id
+prepares_are id ms = kept_count (λ m. prepares id m.request) made_of ms
+
+checks_are : (events : List Event) (id : TxId) (ms : List Made) → checks_wanted events id (all_made ms) ≡ checks_by ms (read_set_of events id) id
+checks_are events id ms = count_both (is_checked_get (prepares_in id (all_made ms))) is_scan (is_check ms id) item (read_set_of events id)
   where
     either_is : (b : Bool) → cond b 1 0 + 0 ≡ cond b 1 0
     either_is true = refl
@@ -50,6 +44,35 @@ wanted_is events id ms =
     item : (n : ReadItem) → cond (is_checked_get (prepares_in id (all_made ms)) n) 1 0 + cond (is_scan n) 1 0 ≡ cond (is_check ms id n) 1 0
     item (KeyRead read) = either_is (is_checked_get (prepares_in id (all_made ms)) (KeyRead read)) ∙ ap (λ b. cond (not b) 1 0) (any_kept (is_key_of read.key) (λ m. prepares id m.request) made_of ms)
     item (SpanRead scan) = refl
+
+abbrev all_put : TxId → List Made → ℕ
+all_put id [] = 0
+all_put id (m ∷ ms) = puts_by id m + all_put id ms
+
+puts_are : (id : TxId) (ms : List Made) → puts_prepared id (all_made ms) ≡ all_put id ms
+puts_are id [] = refl
+puts_are id (m ∷ ms) = by (prepares id m.request) (puts_are id ms)
+  where
+    rest : List calls.StoreCall
+    rest = prepares_in id (all_made ms)
+
+    by : (b : Bool) → sum_by (λ c. length (records_put c.request)) rest ≡ all_put id ms → sum_by (λ c. length (records_put c.request)) (cond b (made_of m ∷ rest) rest) ≡ (if b then length (records_put m.request) else 0) + all_put id ms
+    by true e = sum_by-cons (λ (c : calls.StoreCall). length (records_put c.request)) (made_of m) rest ∙ ap (λ n. length (records_put m.request) + n) e
+    by false e = omega (arith, e)
+
+put_for_is : (id : TxId) (n : ℕ) (ms : List Made) → is_put_for id n ms ≡ true → n ≤ all_put id ms
+put_for_is id n [] h = let z : n ≡ 0 = number_is n 0 h in omega (arith, z)
+put_for_is id n (m ∷ ms) h = by (puts_by id m) (put_for_is id (n - puts_by id m) ms h)
+  where
+    by : (k : ℕ) → n - k ≤ all_put id ms → n ≤ k + all_put id ms
+    by k l = omega (arith, l)
+
+is_put_for_of : (id : TxId) (n : ℕ) (ms : List Made) → n ≤ all_put id ms → is_put_for id n ms ≡ true
+is_put_for_of id n [] l = is_number n 0 (omega (arith, l))
+is_put_for_of id n (m ∷ ms) l = is_put_for_of id (n - puts_by id m) ms (by (puts_by id m) l)
+  where
+    by : (k : ℕ) → n ≤ k + all_put id ms → n - k ≤ all_put id ms
+    by k l = omega (arith, l)
 
 seen_is : (ms : List Made) → All (λ m. is_seen m.how ≡ true) (all_made ms) → all_seen ms ≡ true
 seen_is ms all = each_all (λ m. is_seen m.how) ms (λ m i. let k = in_contains (all_made ms) (made_of m) (made_in ms m i) in subst (λ x. is_seen x.how ≡ true) k.2 (all k.0 (made_of m) k.1))
@@ -76,40 +99,58 @@ told_is (Some answer.OpenTransactions) h = clash (sym h)
 told_is (Some answer.NoMemory) h = clash (sym h)
 
 module _ (events : List Event) (id : TxId) (s : Executed) (ms : List Made) where
-  abbrev w : ℕ
-  w = wanted ms (read_set_of events id) id
-
   abbrev most : Bool
-  most = nat_le (length ms) (w + 4)
+  most = at_most ms (read_set_of events id) id
 
   abbrev answered : Bool
   answered = is_committed_answer s.answer && all_seen ms
 
   abbrev exact : Bool
-  exact = length ms == w + 1
+  exact = as_many ms (read_set_of events id) id
+
+  counts : (length (all_made ms) ≡ length ms) × (length (prepares_in id (all_made ms)) ≡ prepares_by ms id) × (checks_wanted events id (all_made ms) ≡ checks_by ms (read_set_of events id) id) × (puts_prepared id (all_made ms) ≡ all_put id ms)
+  counts = (length-map ms made_of, prepares_are id ms, checks_are events id ms, puts_are id ms)
+
+  exact_is : exact ≡ true → length (all_made ms) ≡ 2 * length (prepares_in id (all_made ms)) + checks_wanted events id (all_made ms) + 1
+  exact_is h = by (length (all_made ms)) (length (prepares_in id (all_made ms))) (checks_wanted events id (all_made ms)) (prepares_by ms id) (checks_by ms (read_set_of events id) id) counts.0 counts.1 counts.2 (number_is (length ms) (2 * prepares_by ms id + checks_by ms (read_set_of events id) id + 1) h)
+    where
+      by : (n g c p k : ℕ) → n ≡ length ms → g ≡ p → c ≡ k → length ms ≡ 2 * p + k + 1 → n ≡ 2 * g + c + 1
+      by n g c p k a e f h = omega (arith, a, e, f, h)
+
+  is_exact_of : length (all_made ms) ≡ 2 * length (prepares_in id (all_made ms)) + checks_wanted events id (all_made ms) + 1 → exact ≡ true
+  is_exact_of h = is_number (length ms) (2 * prepares_by ms id + checks_by ms (read_set_of events id) id + 1) (by (length (all_made ms)) (length (prepares_in id (all_made ms))) (checks_wanted events id (all_made ms)) (prepares_by ms id) (checks_by ms (read_set_of events id) id) counts.0 counts.1 counts.2 h)
+    where
+      by : (n g c p k : ℕ) → n ≡ length ms → g ≡ p → c ≡ k → n ≡ 2 * g + c + 1 → length ms ≡ 2 * p + k + 1
+      by n g c p k a e f h = omega (arith, a, e, f, h)
+
+  most_is : most ≡ true → length (all_made ms) ≤ length (prepares_in id (all_made ms)) + (puts_prepared id (all_made ms) + checks_wanted events id (all_made ms)) + 4
+  most_is h = by (length (all_made ms)) (length (prepares_in id (all_made ms))) (checks_wanted events id (all_made ms)) (puts_prepared id (all_made ms)) (prepares_by ms id) (checks_by ms (read_set_of events id) id) (all_put id ms) counts.0 counts.1 counts.2 counts.3 (put_for_is id (length ms - (prepares_by ms id + checks_by ms (read_set_of events id) id + 4)) ms h)
+    where
+      by : (n g c w p k a : ℕ) → n ≡ length ms → g ≡ p → c ≡ k → w ≡ a → length ms - (p + k + 4) ≤ a → n ≤ g + (w + c) + 4
+      by n g c w p k a e f i j h = omega (arith, e, f, i, j, h)
+
+  is_most_of : length (all_made ms) ≤ length (prepares_in id (all_made ms)) + (puts_prepared id (all_made ms) + checks_wanted events id (all_made ms)) + 4 → most ≡ true
+  is_most_of h =
+      is_put_for_of id (length ms - (prepares_by ms id + checks_by ms (read_set_of events id) id + 4)) ms
+      (by (length (all_made ms)) (length (prepares_in id (all_made ms))) (checks_wanted events id (all_made ms)) (puts_prepared id (all_made ms)) (prepares_by ms id) (checks_by ms (read_set_of events id) id) (all_put id ms) counts.0 counts.1 counts.2 counts.3 h)
+    where
+      by : (n g c w p k a : ℕ) → n ≡ length ms → g ≡ p → c ≡ k → w ≡ a → n ≤ g + (w + c) + 4 → length ms - (p + k + 4) ≤ a
+      by n g c w p k a e f i j h = omega (arith, e, f, i, j, h)
 
   counted_is : commit_counted ms (read_set_of events id) id s ≡ true → IsCommitCounted events id s (all_made ms)
   counted_is h = record {
-    exact = λ a all. length-map ms made_of ∙ number_is (length ms) (w + 1) (elim (either (not answered) exact (right most (not answered || exact) h)) [
+    exact = λ a all. exact_is (elim (either (not answered) exact (right most (not answered || exact) h)) [
       | inl n ↦ not_both answered (both (is_committed_answer s.answer) (all_seen ms) (ap is_committed_answer a) (seen_is ms all)) (not_true answered n)
       | inr e ↦ e
-    ]) ∙ ap (λ n. n + 1) (sym (wanted_is events id ms));
-    most =
-        let l : length ms ≤ w + 4 = le_is (length ms) (w + 4) (left most (not answered || exact) h) in
-        let a : length (all_made ms) ≡ length ms = length-map ms made_of in
-        let e : calls_wanted events id (all_made ms) ≡ w = wanted_is events id ms in
-        omega (arith, l, a, e);
+    ]);
+    most = most_is (left most (not answered || exact) h);
   }
 
   is_counted_of : IsCommitCounted events id s (all_made ms) → commit_counted ms (read_set_of events id) id s ≡ true
-  is_counted_of c =
-      let a : length (all_made ms) ≡ length ms = length-map ms made_of in
-      let e : calls_wanted events id (all_made ms) ≡ w = wanted_is events id ms in
-      let m : length (all_made ms) ≤ calls_wanted events id (all_made ms) + 4 = c.most in
-      both most (not answered || exact) (is_le (length ms) (w + 4) (omega (arith, m, a, e))) (elim (decide answered) [
-        | inl t ↦ or_right (not answered) exact (is_number (length ms) (w + 1) (sym a ∙ c.exact (told_is s.answer (left (is_committed_answer s.answer) (all_seen ms) t)) (is_seen_of ms (right (is_committed_answer s.answer) (all_seen ms) t)) ∙ ap (λ n. n + 1) e))
-        | inr f ↦ or_left (not answered) exact (true_not answered f)
-      ])
+  is_counted_of c = both most (not answered || exact) (is_most_of c.most) (elim (decide answered) [
+    | inl t ↦ or_right (not answered) exact (is_exact_of (c.exact (told_is s.answer (left (is_committed_answer s.answer) (all_seen ms) t)) (is_seen_of ms (right (is_committed_answer s.answer) (all_seen ms) t))))
+    | inr f ↦ or_left (not answered) exact (true_not answered f)
+  ])
 
 ---- the calls of other statements
 

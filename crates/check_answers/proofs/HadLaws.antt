@@ -32,12 +32,14 @@ reads_is key (ask.Get k) h = same_key_exact k key h
 reads_is key (ask.Scan span) h = h
 reads_is key (ask.PutIf rec condition) h = clash (sym h)
 reads_is key (ask.DeleteIf k condition) h = clash (sym h)
+reads_is key (ask.PutAll batch) h = clash (sym h)
 
 is_reads : (key : Key) (q : Request) → ReadsKey key q → reads_key key q ≡ true
 is_reads key (ask.Get k) h = same_key_of k key h
 is_reads key (ask.Scan span) h = h
 is_reads key (ask.PutIf rec condition) h = absurd h
 is_reads key (ask.DeleteIf k condition) h = absurd h
+is_reads key (ask.PutAll batch) h = absurd h
 
 module _ (x : Stores) (events : List Event) (client : ℕ) where
   abbrev pub Was : Executed → Key → Option (List Pair) → Type 0

@@ -3,7 +3,10 @@ use Rattle.std.proofs.Common.{◌≡◌, ℕ, ◌+◌, Bool, true, false, List, 
 use Rattle.std.specs.Prelude.{◌&&◌, ◌||◌, count_by, filter, fold, cond}
 use Rattle.std.specs.List.{list_any}
 use Rattle.std.specs.Option.{option_map_or}
+use Rattle.sdb_types.specs.declared.record.Put.{Put}
+use Rattle.sdb_types.specs.declared.record.Request.TheVariants.{PutAll}
 use Rattle.sdb_types.proofs.Public.{clash}
+use Rattle.sdb_model.specs.Requests.{records_put}
 
 pub one_left : (b : Bool) → b ≡ (b && true)
 one_left true = refl
@@ -68,3 +71,8 @@ some_of f (Some x) h = (x, refl, h)
 
 pub of_some : {X : Type 0} (f : X → Bool) (o : Option X) (x : X) → o ≡ Some x → f x ≡ true → option_map_or f o false ≡ true
 of_some f o x e h = ap (λ p. option_map_or f p false) e ∙ h
+
+-- a batch puts as many records as it has puts
+pub batch_length : (b : List Put) → length b ≡ length (records_put (PutAll b))
+batch_length [] = refl
+batch_length (p ∷ b) = let e = batch_length b in omega (arith, e)

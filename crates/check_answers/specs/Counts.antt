@@ -1,5 +1,5 @@
 -- Tests that hold exactly where the definitions of counts and of rolls do, over calls as the program has them.
-use Rattle.std.specs.Prelude.{◌≡◌, ◌⊎◌, ℕ, ◌+◌, ◌-◌, ◌*◌, Bool, true, false, not, ◌&&◌, ◌||◌, ◌==◌, nat_le, nat_lt, if◌then◌else◌, List, [], ◌∷◌, length, filter, count_by, Contains}
+use Rattle.std.specs.Prelude.{◌≡◌, ◌⊎◌, ℕ, ◌+◌, ◌-◌, ◌*◌, Bool, true, false, not, ◌&&◌, ◌||◌, ◌==◌, nat_lt, if◌then◌else◌, List, [], ◌∷◌, length, filter, count_by, Contains}
 use Rattle.std.specs.List.{list_all, list_any}
 use Rattle.std.specs.Option.{option_map_or}
 use Rattle.check_answers.specs.Types.{Event, Key, Made, Record, Request, State, Table, TxId}
@@ -9,12 +9,13 @@ use Rattle.sdb_record.specs.Meta.{id_in, is_unresolved, state_in}
 use Rattle.sdb_model.specs.Calls.{calls_of, is_removal, records_read}
 use Rattle.sdb_model.specs.Calls as calls
 use Rattle.sdb_model.specs.Causes.{IsCommitOf}
-use Rattle.sdb_model.specs.Counted.{IsCommitCounted, IsPassedOver, IsReadCounted, IsResolved, IsVacuumCounted, is_seen, roll_by}
+use Rattle.sdb_model.specs.Counted.{IsCommitCounted, IsPassedOver, IsReadCounted, IsResolved, IsVacuumCounted, is_key_of, is_seen, roll_by}
 use Rattle.sdb_model.specs.ReadSet.{KeyRead, ReadItem, SpanRead, read_set_of, has_read, reads_rows}
+use Rattle.sdb_model.specs.Requests.{records_put}
 use Rattle.sdb_model.specs.Sql.{reads_commit, reads_vacuum}
 use Rattle.sdb_model.specs.Transactions.{Executed, prepares, is_committed_answer}
 use Rattle.check_protocol.specs.Values.{same_request}
-use Rattle.check_tables.specs.Values.{asks_row, decision_at, made_of}
+use Rattle.check_tables.specs.Values.{decision_at, made_of}
 use Rattle.check_answers.specs.Tests.{is_commit_of, is_early, prepared_moment}
 use Rattle.sdb_types.specs.Replies.{is_answered}
 
@@ -24,18 +25,38 @@ abbrev pub all_seen : List Made → Bool
 all_seen ms = list_all (λ m. is_seen m.how) ms
 
 abbrev pub is_prepared : List Made → TxId → Key → Bool
-is_prepared ms id key = list_any (λ m. prepares id m.request && asks_row key m.request) ms
+is_prepared ms id key = list_any (λ m. prepares id m.request && is_key_of key (made_of m)) ms
 
 -- a COMMIT checks a scan, and a get of a key that it doesn't prepare
 abbrev pub is_check : List Made → TxId → ReadItem → Bool
 is_check ms id (KeyRead read) = not (is_prepared ms id read.key)
 is_check ms id (SpanRead scan) = true
 
-abbrev pub wanted : List Made → List ReadItem → TxId → ℕ
-wanted ms read_set id = 2 * count_by (λ m. prepares id m.request) ms + count_by (is_check ms id) read_set
+abbrev pub prepares_by : List Made → TxId → ℕ
+prepares_by ms id = count_by (λ m. prepares id m.request) ms
+
+abbrev pub checks_by : List Made → List ReadItem → TxId → ℕ
+checks_by ms read_set id = count_by (is_check ms id) read_set
+
+-- how many records a call puts, if it is a prepare
+abbrev pub puts_by : TxId → Made → ℕ
+puts_by id m = if prepares id m.request then length (records_put m.request) else 0
+
+-- so many calls are at most one for each record that is prepared
+abbrev pub is_put_for : TxId → ℕ → List Made → Bool
+is_put_for id n [] = n == 0
+is_put_for id n (m ∷ ms) = is_put_for id (n - puts_by id m) ms
+
+-- at most one call for each prepare, one for each check, four, and one for each record that is prepared
+abbrev pub at_most : List Made → List ReadItem → TxId → Bool
+at_most ms read_set id = is_put_for id (length ms - (prepares_by ms id + checks_by ms read_set id + 4)) ms
+
+-- two calls for each prepare, one for each check, and one
+abbrev pub as_many : List Made → List ReadItem → TxId → Bool
+as_many ms read_set id = length ms == 2 * prepares_by ms id + checks_by ms read_set id + 1
 
 abbrev pub commit_counted : List Made → List ReadItem → TxId → Executed → Bool
-commit_counted ms read_set id s = nat_le (length ms) (wanted ms read_set id + 4) && (not (is_committed_answer s.answer && all_seen ms) || (length ms == wanted ms read_set id + 1))
+commit_counted ms read_set id s = at_most ms read_set id && (not (is_committed_answer s.answer && all_seen ms) || as_many ms read_set id)
 
 -- a statement is the COMMIT of a transaction, and its calls are not counted
 abbrev pub miscounted : List Event → ℕ → Executed → List Made → TxId → Bool

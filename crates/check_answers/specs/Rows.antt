@@ -32,6 +32,7 @@ reads_key key (ask.Get k) = same_key k key
 reads_key key (ask.Scan span) = in_span span key
 reads_key key (ask.PutIf rec condition) = false
 reads_key key (ask.DeleteIf k condition) = false
+reads_key key (ask.PutAll batch) = false
 
 -- the rows at moments from one on, before another
 abbrev pub rows_below : (ℕ → Option (List Pair)) → ℕ → ℕ → List (Option (List Pair))

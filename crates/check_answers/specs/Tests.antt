@@ -23,7 +23,8 @@ use Rattle.sdb_model.specs.Access.{in_access}
 use Rattle.sdb_model.specs.Reads.{access_of}
 use Rattle.sdb_model.specs.Refused.{refusal_of}
 use Rattle.sdb_model.specs.Rows.{same_name}
-use Rattle.sdb_model.specs.Transactions.{Executed, client_of, commit_of, id_of, is_effective, ordinal_of, statements_by, statements_of}
+use Rattle.sdb_model.specs.Requests.{observed_in, records_put}
+use Rattle.sdb_model.specs.Transactions.{Executed, client_of, commit_of, id_of, is_effective, is_prepared_record, ordinal_of, statements_by, statements_of}
 use Rattle.sdb_model.specs.Catalogs.{catalog_after}
 use Rattle.sdb_model.specs.Calls as calls
 use Rattle.sdb_model.specs.Calls.{clock_at, calls_of, decision_learned, is_read, put_by, records_read, records_observed}
@@ -150,12 +151,12 @@ is_changed key found n = option_map_or (λ version. not (is_unchanged found vers
 abbrev pub has_changed_from : List ReadItem → Key → Option Record → Bool
 has_changed_from read_set key found = list_any (is_changed key found) read_set
 
-abbrev pub not_met_as : Reply → Option Record → Bool
-not_met_as (reply.NotMet stored_at) found = same_found stored_at found
-not_met_as r found = false
+-- a reply shows this at a key that its request names
+abbrev pub observes : Request → Reply → Key → Option Record → Bool
+observes q r key found = list_any (λ s. same_key s.0 key && same_found s.1 found) (observed_in q r)
 
 abbrev pub is_unmet : TxId → Key → Option Record → Made → Bool
-is_unmet id key found m = prepares_key id key (made_of m) && not_met_as m.reply found
+is_unmet id key found m = prepares_key id key (made_of m) && observes m.request m.reply key found
 
 abbrev pub get_observes : Request → Reply → Key → Option Record → Bool
 get_observes (ask.Get k) (reply.Found stored_at) key found = same_key k key && same_found stored_at found
@@ -179,15 +180,19 @@ abbrev pub is_found_by : List Made → TxId → Key → Option Record → Bool
 is_found_by ms id key found = list_any (is_unmet id key found) ms || (not (has_prepared ms id key) && list_any (λ m. read_observes m key found) ms)
 
 -- the version of the base of a record that is put
-abbrev pub base_put : Made → Option TxId
-base_put m = option_and_then (λ r. id_in (before_part r.columns)) (put_by m.request)
+abbrev pub base_put : Record → Option TxId
+base_put r = id_in (before_part r.columns)
 
 abbrev pub scan_differs : Key → Option TxId → ReadItem → Bool
 scan_differs key base (KeyRead read) = false
 scan_differs key base (SpanRead scan) = in_span scan.span key && not (same_version base (version_among scan.found key))
 
+-- a record is prepared at the key over another version than a scan was recorded with
+abbrev pub is_rebase : List ReadItem → TxId → Key → Record → Bool
+is_rebase read_set id key r = (is_prepared_record id r && same_key r.key key) && list_any (scan_differs key (base_put r)) read_set
+
 abbrev pub is_rebased : List Made → List ReadItem → TxId → Key → Bool
-is_rebased ms read_set id key = list_any (λ p. prepares_key id key (made_of p) && list_any (scan_differs key (base_put p)) read_set) ms
+is_rebased ms read_set id key = list_any (λ m. list_any (is_rebase read_set id key) (records_put m.request)) ms
 
 abbrev pub conflict_at_commit : List Made → List ReadItem → TxId → Key → Option Record → Bool
 conflict_at_commit ms read_set id key found = (has_changed_from read_set key found && is_found_by ms id key found) || (list_any (λ m. scan_observes m key found) ms && is_rebased ms read_set id key)

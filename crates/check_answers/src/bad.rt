@@ -54,6 +54,7 @@ fn observes_bad(alloc: Global, key: &Key, made: &Made) -> bool
     match &made.reply {
         Reply::Found(Some(rec)) => is_bad_at(alloc, key, rec),
         Reply::NotMet(Some(rec)) => is_bad_at(alloc, key, rec),
+        Reply::NotAll(_, Some(rec)) => is_bad_at(alloc, key, rec),
         Reply::Rows(rows) => any_bad_at(alloc, key, rows.as_slice()),
         _ => false,
     }

@@ -2,26 +2,29 @@
 ghost use Rattle.std.specs.Prelude.{◌≡◌, ◌&&◌, IfOk, IsTrue, ◌↔◌};
 ghost use Rattle.std.specs.Option.{option_and_then, option_copied};
 ghost use Rattle.std.specs.List.{list_any};
-ghost use Rattle.sdb_model.specs.Causes.{IsConflict, prepares_key as prepares_key_lem};
+ghost use Rattle.sdb_types.specs.declared.record.Request.TheVariants.{PutAll};
+ghost use Rattle.sdb_model.specs.Causes.{IsConflict};
+ghost use Rattle.sdb_model.specs.Requests.{records_put};
 ghost use Rattle.sdb_model.specs.ReadSet.{meaning_of as meaning_of_lem, read_set_of as read_set_of_lem};
 ghost use Rattle.sdb_model.specs.Transactions.{id_of as id_of_lem};
 ghost use Rattle.sdb_contents.specs.Commits.{executed_of};
 ghost use Rattle.sdb_record.specs.Moved.{is_unchanged as is_unchanged_lem};
 ghost use Rattle.check_protocol.specs.Values.{item_of};
-ghost use Rattle.check_tables.specs.Values.{all_made, all_items, made_of};
-ghost use Rattle.check_answers.specs.Tests.{conflict_at_scan, is_changed as is_changed_lem, has_changed_from as has_changed_from_lem, get_observes as get_observes_lem, is_found_by as is_found_by_lem, is_unmet as is_unmet_lem, not_met_as as not_met_as_lem, read_observes as read_observes_lem, scan_observes as scan_observes_lem, base_put as base_put_lem, scan_differs as scan_differs_lem, is_rebased as is_rebased_lem, conflict_at_commit as conflict_at_commit_lem, same_found, any_upto, conflict_of as conflict_of_lem, means as means_lem};
+ghost use Rattle.check_tables.specs.Values.{all_made, all_items};
+ghost use Rattle.check_answers.specs.Tests.{conflict_at_scan, is_changed as is_changed_lem, has_changed_from as has_changed_from_lem, get_observes as get_observes_lem, is_found_by as is_found_by_lem, is_unmet as is_unmet_lem, read_observes as read_observes_lem, scan_observes as scan_observes_lem, base_put as base_put_lem, scan_differs as scan_differs_lem, is_rebase as is_rebase_lem, is_rebased as is_rebased_lem, conflict_at_commit as conflict_at_commit_lem, same_found, any_upto, conflict_of as conflict_of_lem, means as means_lem};
 
 use crate::commit::{is_commit_of, is_in};
+use crate::puts::{is_prepared_at, observes, prepares_key};
 use crate::same::is_same_found;
 use crate::sign::{Sign, any};
 use check_protocol::{
     ReadItem, before_writer, is_same_key, record_among, version_among, version_read,
 };
-use check_tables::{Made, calls_of, id_of, is_prepared_record, meaning_of, put_by, read_set_of};
+use check_tables::{Made, calls_of, id_of, meaning_of, read_set_of};
 use sdb_contents::{Executed, is_word, statements_by};
 use sdb_model::{Event, Keyword};
 use sdb_record::{Scan, is_same_version, is_unchanged};
-use sdb_types::{Key, NoMemory, Record, Reply, Request, TxId};
+use sdb_types::{Key, NoMemory, Put, Record, Reply, Request, TxId};
 use std::alloc::Global;
 
 fn is_moved(item: &ReadItem, key: &Key, found: &Option<Record>) -> bool
@@ -62,30 +65,11 @@ pub fn scan_observes(made: &Made, key: &Key, found: &Option<Record>) -> bool
     }
 }
 
-/// Whether a call is a prepare of the key.
-pub fn prepares_key(id: TxId, key: &Key, made: &Made) -> bool
-    ensures { result ≡ prepares_key_lem id key.now (made_of made.now) }
-{
-    match &made.request {
-        Request::PutIf(rec, _) => is_prepared_record(rec, id) && is_same_key(&rec.key, key),
-        _ => false,
-    }
-}
-
-fn not_met_as(reply: &Reply, found: &Option<Record>) -> bool
-    ensures { result ≡ not_met_as_lem reply.now found.now }
-{
-    match reply {
-        Reply::NotMet(stored_at) => is_same_found(stored_at.as_ref(), found),
-        _ => false,
-    }
-}
-
 /// Whether a call is a prepare of the key that was not met, where this was found.
 pub fn is_unmet(id: TxId, key: &Key, found: &Option<Record>, made: &Made) -> bool
     ensures { result ≡ is_unmet_lem id key.now found.now made.now }
 {
-    prepares_key(id, key, made) && not_met_as(&made.reply, found)
+    prepares_key(id, key, made) && observes(&made.request, &made.reply, key, found)
 }
 
 fn get_shows(made: &Made, key: &Key, found: &Option<Record>) -> bool
@@ -116,13 +100,10 @@ fn is_found_by(alloc: Global, calls: &[Made], id: TxId, key: &Key, found: &Optio
 
 // The version of the base of a record that is put.
 #[tactic(auto, using(check_protocol::proofs::Public::kept_writer_is))]
-fn base_put(made: &Made) -> Option<TxId>
-    ensures { result ≡ base_put_lem made.now }
+fn base_put(rec: &Record) -> Option<TxId>
+    ensures { result ≡ base_put_lem rec.now }
 {
-    match put_by(&made.request) {
-        Some(rec) => before_writer(&rec.columns),
-        None => None,
-    }
+    before_writer(&rec.columns)
 }
 
 fn scan_differs(item: &ReadItem, key: &Key, base: Option<TxId>) -> bool
@@ -154,18 +135,41 @@ fn any_differs(read_set: &[ReadItem], key: &Key, base: Option<TxId>) -> bool
     any_scan_differs(read_set, key, base)
 }
 
-fn differs_from(read_set: &[ReadItem], id: TxId, key: &Key, prepare: &Made) -> bool
-    ensures { result ≡ (prepares_key_lem id key.now (made_of prepare.now) && list_any (scan_differs_lem key.now (base_put_lem prepare.now)) (all_items read_set.now)) }
+// Whether a record is prepared at the key over another version than a scan was recorded with.
+fn is_rebase(read_set: &[ReadItem], id: TxId, key: &Key, rec: &Record) -> bool
+    ensures { result ≡ is_rebase_lem (all_items read_set.now) id key.now rec.now }
 {
-    prepares_key(id, key, prepare) && any_differs(read_set, key, base_put(prepare))
+    is_prepared_at(rec, id, key) && any_differs(read_set, key, base_put(rec))
+}
+
+fn any_rebase(read_set: &[ReadItem], id: TxId, key: &Key, puts: &[Put]) -> bool
+    ensures { result ≡ list_any (is_rebase_lem (all_items read_set.now) id key.now) (records_put (PutAll puts.now)) }
+{
+    match puts {
+        [] => false,
+        [put, rest @ ..] => {
+            is_rebase(read_set, id, key, &put.rec) || any_rebase(read_set, id, key, rest)
+        }
+    }
+}
+
+#[tactic(auto, using(crate::proofs::Finds::one_found))]
+fn puts_rebase(read_set: &[ReadItem], id: TxId, key: &Key, request: &Request) -> bool
+    ensures { result ≡ list_any (is_rebase_lem (all_items read_set.now) id key.now) (records_put request.now) }
+{
+    match request {
+        Request::PutIf(rec, _) => is_rebase(read_set, id, key, rec),
+        Request::PutAll(batch) => any_rebase(read_set, id, key, batch.as_slice()),
+        Request::Get(_) | Request::Scan(_) | Request::DeleteIf(_, _) => false,
+    }
 }
 
 // Whether a scan was recorded with another version of a key than the prepare's base has.
 fn is_rebased(calls: &[Made], read_set: &[ReadItem], id: TxId, key: &Key) -> bool
     ensures { result ≡ is_rebased_lem calls.now (all_items read_set.now) id key.now }
 {
-    for prepare in calls {
-        if differs_from(read_set, id, key, prepare) {
+    for made in calls {
+        if puts_rebase(read_set, id, key, &made.request) {
             return true;
         }
     }

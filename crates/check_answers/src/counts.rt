@@ -8,13 +8,12 @@ ghost use Rattle.sdb_contents.specs.Commits.{executed_of};
 ghost use Rattle.check_protocol.specs.Values.{item_of};
 ghost use Rattle.check_tables.specs.Values.{all_items};
 ghost use Rattle.check_answers.specs.Tests.{any_upto};
-ghost use Rattle.check_answers.specs.Counts.{IsExecutedCounted, all_seen, commit_counted as commit_counted_lem, covered as covered_lem, is_check as is_check_lem, is_prepared as is_prepared_lem, miscounted, others_counted as others_counted_lem, read_counted as read_counted_lem, unresolved_by, vacuum_counted as vacuum_counted_lem, wanted as wanted_lem};
+ghost use Rattle.check_answers.specs.Counts.{IsExecutedCounted, all_seen, commit_counted as commit_counted_lem, covered as covered_lem, is_check as is_check_lem, is_prepared as is_prepared_lem, miscounted, others_counted as others_counted_lem, read_counted as read_counted_lem, unresolved_by, vacuum_counted as vacuum_counted_lem, puts_by as puts_by_lem, is_put_for as is_put_for_lem, at_most as at_most_lem, as_many as as_many_lem};
 
+use crate::puts::{puts_count, puts_key};
 use crate::{is_commit_of, is_unresolved};
 use check_protocol::ReadItem;
-use check_tables::{
-    Made, asks_row, calls_of, id_of, is_prepare, is_removal, read_set_of, reads_rows,
-};
+use check_tables::{Made, calls_of, id_of, is_prepare, is_removal, read_set_of, reads_rows};
 use sdb_contents::{Executed, is_word, statements_by};
 use sdb_model::{Answer, Event, How, Keyword};
 use sdb_schema::Catalog;
@@ -36,7 +35,7 @@ fn is_prepared(calls: &[Made], id: TxId, key: &Key) -> bool
     ensures { result ≡ is_prepared_lem calls.now id key.now }
 {
     for made in calls {
-        if is_prepare(&made.request, id) && asks_row(key, &made.request) {
+        if is_prepare(&made.request, id) && puts_key(&made.request, key) {
             return true;
         }
     }
@@ -72,11 +71,44 @@ fn checks(calls: &[Made], read_set: &[ReadItem], id: TxId) -> usize
         .count()
 }
 
-// How many calls a COMMIT makes but for its deciding put: two for each prepare, and one for each check.
-fn wanted(calls: &[Made], read_set: &[ReadItem], id: TxId) -> u128
-    ensures { result ≡ wanted_lem calls.now (all_items read_set.now) id }
+// How many records a call puts, if it is a prepare.
+fn puts_by(id: TxId, made: &Made) -> usize
+    ensures { result ≡ puts_by_lem id made.now }
 {
-    2 * (prepares(calls, id) as u128) + checks(calls, read_set, id) as u128
+    if is_prepare(&made.request, id) {
+        puts_count(&made.request)
+    } else {
+        0
+    }
+}
+
+// Whether so many calls are at most one for each record that is prepared.
+fn is_put_for(id: TxId, count: u128, calls: &[Made]) -> bool
+    ensures { result ≡ is_put_for_lem id count calls.now }
+{
+    let Some((first, rest)) = calls.split_first() else {
+        return count == 0;
+    };
+    let puts = puts_by(id, first) as u128;
+    is_put_for(id, count.saturating_sub(puts), rest)
+}
+
+// Whether there are at most one call for each prepare, one for each check, four, and one for each record that is prepared.
+fn at_most(calls: &[Made], read_set: &[ReadItem], id: TxId) -> bool
+    ensures { result ≡ at_most_lem calls.now (all_items read_set.now) id }
+{
+    let checks = checks(calls, read_set, id) as u128;
+    let free = prepares(calls, id) as u128 + checks + 4;
+    let made = calls.len() as u128;
+    is_put_for(id, made.saturating_sub(free), calls)
+}
+
+// Whether there are two calls for each prepare, one for each check, and one.
+fn as_many(calls: &[Made], read_set: &[ReadItem], id: TxId) -> bool
+    ensures { result ≡ as_many_lem calls.now (all_items read_set.now) id }
+{
+    let checks = checks(calls, read_set, id) as u128;
+    calls.len() as u128 == 2 * (prepares(calls, id) as u128) + checks + 1
 }
 
 fn is_told_committed(executed: &Executed) -> bool
@@ -88,9 +120,8 @@ fn is_told_committed(executed: &Executed) -> bool
 fn commit_counted(calls: &[Made], read_set: &[ReadItem], id: TxId, executed: &Executed) -> bool
     ensures { result ≡ commit_counted_lem calls.now (all_items read_set.now) id (executed_of executed.now) }
 {
-    let wanted = wanted(calls, read_set, id);
-    let made = calls.len() as u128;
-    made <= wanted + 4 && (!(is_told_committed(executed) && are_seen(calls)) || made == wanted + 1)
+    at_most(calls, read_set, id)
+        && (!(is_told_committed(executed) && are_seen(calls)) || as_many(calls, read_set, id))
 }
 
 // Whether a statement is the COMMIT of a transaction, and its calls are not counted.

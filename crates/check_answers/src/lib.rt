@@ -18,6 +18,7 @@ mod had;
 mod keys;
 mod misfit;
 mod plain;
+mod puts;
 mod reading;
 mod replies;
 mod rolls;

@@ -3,10 +3,10 @@ ghost use Rattle.std.specs.Prelude.{◌≡◌, true, IfSome};
 ghost use Rattle.std.specs.List.{list_all};
 ghost use Rattle.std.specs.Option.{option_copied};
 ghost use Rattle.sdb_record.specs.Meta.{is_moment as is_moment_lem};
-ghost use Rattle.sdb_types.specs.Contents.{CanAnswer, IsUnmet, are_rows_of as are_rows_of_lem, in_span, rise, starts_after as starts_after_lem};
+ghost use Rattle.sdb_types.specs.Contents.{CanAnswer, IsUnmet, IsUnmetAt, are_rows_of as are_rows_of_lem, in_span, rise, starts_after as starts_after_lem};
 
 use sdb_store::holds;
-use sdb_types::{Condition, Key, Record, Reply, Request, Span, same};
+use sdb_types::{Condition, Key, Put, Record, Reply, Request, Span, put_at, same};
 
 const LAST_MOMENT: i64 = 9_007_199_254_740_992;
 
@@ -71,6 +71,19 @@ pub fn is_moment(moment: i64) -> bool
     moment >= 0 && moment <= LAST_MOMENT
 }
 
+// The condition of the put of a place, counted from 1, fails of what was found at its key.
+fn is_unmet_at(puts: &[Put], place: u32, found: &Option<Record>) -> bool
+    ensures { result ≡ true → IsUnmetAt puts.now place found.now }
+{
+    if place == 0 {
+        return false;
+    }
+    match put_at(puts, place) {
+        Some(put) => is_unmet(&put.condition, &put.rec.key, found),
+        None => false,
+    }
+}
+
 /// Whether a request can get a reply, from any store.
 pub fn can_answer(request: &Request, reply: &Reply) -> bool
     ensures { result ≡ true → CanAnswer request.now reply.now }
@@ -79,12 +92,19 @@ pub fn can_answer(request: &Request, reply: &Reply) -> bool
         (_, Reply::Fault) | (_, Reply::NoMemory) => true,
         (Request::Get(key), Reply::Found(found)) => is_at(key, found),
         (Request::Scan(span), Reply::Rows(rows)) => are_rows_of(span, rows.as_slice()),
-        (Request::PutIf(_, _), Reply::Applied) | (Request::DeleteIf(_, _), Reply::Applied) => true,
+        (Request::PutIf(_, _), Reply::Applied)
+        | (Request::DeleteIf(_, _), Reply::Applied)
+        | (Request::PutAll(_), Reply::Applied) => true,
         (Request::PutIf(rec, condition), Reply::NotMet(found)) => is_unmet(
             condition, &rec.key, found,
         ),
         (Request::DeleteIf(key, condition), Reply::NotMet(found)) => is_unmet(
             condition, key, found,
+        ),
+        (Request::PutAll(batch), Reply::NotAll(place, found)) => is_unmet_at(
+            batch.as_slice(),
+            *place,
+            found,
         ),
         _ => false,
     }

@@ -76,8 +76,10 @@ fn is_roll(after: u64, request: &Request, made: &Made) -> bool
 {
     after < made.at
         && (matches!(made.how, How::Seen)
-            && (matches!(made.reply, Reply::Applied | Reply::NotMet(_))
-                && is_same_request(&made.request, request)))
+            && (matches!(
+                made.reply,
+                Reply::Applied | Reply::NotMet(_) | Reply::NotAll(_, _)
+            ) && is_same_request(&made.request, request)))
 }
 
 fn rolled_after(calls: &[Made], after: u64, request: &Request) -> bool

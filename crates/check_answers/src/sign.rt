@@ -5,7 +5,8 @@ ghost use Rattle.check_answers.specs.Tests.{has_sign as has_sign_lem};
 
 use crate::busy::looks_early;
 use crate::commit::{fails_later, puts_row};
-use crate::conflict::{is_unmet, prepares_key, read_observes, scan_observes};
+use crate::conflict::{is_unmet, read_observes, scan_observes};
+use crate::puts::prepares_key;
 use check_tables::Made;
 use sdb_model::Event;
 use sdb_record::Decision;

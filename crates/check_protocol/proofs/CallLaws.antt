@@ -1,25 +1,28 @@
 -- The tests of prepares, checks, decisions and aborts decide their rules.
-use Rattle.std.proofs.Common.{◌≡◌, ◌≢◌, ℕ, suc, ◌+◌, ◌<◌, ◌^◌, Bool, true, false, List, [], ◌∷◌, ◌++◌, length, Option, Some, None, inl, inr, refl, sym, ap, subst, ◌∙◌, arith}
+use Rattle.std.proofs.Common.{◌≡◌, ◌≢◌, ℕ, suc, ◌+◌, ◌<◌, ◌^◌, Bool, true, false, List, [], ◌∷◌, ◌++◌, length, map, Option, Some, None, inl, inr, refl, sym, ap, subst, ◌∙◌, arith}
 use Rattle.std.specs.Prelude.{ℤ, ◌&&◌, ◌||◌, ◌==◌, not, is_some, nat_lt, slice_get, if◌then◌else◌}
 use Rattle.std.specs.Option.{option_map_or, option_map}
-use Rattle.std.specs.List.{list_all, enumerate_from}
+use Rattle.std.specs.List.{AllByRecursion, list_all, enumerate_from}
 use Rattle.std.proofs.lemmas.Bool.{ltb-true, lt-ltb}
 use Rattle.std.proofs.lemmas.List.{length-append}
-use Rattle.check_protocol.specs.Types.{Event, Key, Read, Record, Reply, Request, Scan, Span, TxId, Value, Write}
+use Rattle.check_protocol.specs.Types.{Event, Key, Put, Read, Record, Reply, Request, Scan, Span, TxId, Value, Write}
 use Rattle.sdb_types.specs.declared.value.Value.TheVariants as value
 use Rattle.sdb_types.specs.declared.record.Condition.TheVariants as condition
 use Rattle.sdb_types.specs.declared.record.Request.TheVariants as ask
 use Rattle.sdb_types.specs.declared.record.Reply.TheVariants as reply
-use Rattle.sdb_types.specs.Contents.{in_span, record_among}
+use Rattle.sdb_types.specs.Contents.{in_span, record_among, sent}
 use Rattle.sdb_types.specs.Exactness.{span_is_exact}
 use Rattle.sdb_record.specs.declared.coordinator.Decision.TheVariants as decision
 use Rattle.sdb_record.specs.Coordinator.{coordinator_row_of}
 use Rattle.sdb_record.specs.Meta.{is_moment}
-use Rattle.sdb_record.specs.Moved.{version_of, condition_of, is_unchanged, same_version}
+use Rattle.sdb_record.specs.Groups.{keys_of_writes}
+use Rattle.sdb_record.specs.Moved.{version_of, is_unchanged, same_version}
+use Rattle.sdb_record.specs.Puts.{prepare_of}
 use Rattle.sdb_record.specs.Rolls.{IsWrite, prepared_record}
 use Rattle.sdb_record.specs.Among.{version_among, write_among}
 use Rattle.sdb_model.specs.declared.event.Event.TheVariants as event
-use Rattle.law_protocol.specs.Plan.{written, version_read_at, number_of}
+use Rattle.law_protocol.specs.Plan as law
+use Rattle.law_protocol.specs.Plan.{write_at, written, version_read_at, number_of}
 use Rattle.sdb_model.specs.ReadSet.{version_read}
 use Rattle.law_protocol.specs.History.{Stage, Preparing, Checking, Deciding, IsPrepared}
 use Rattle.law_protocol.specs.Lawful.{id, protocol_state, ack_of as reply_word, InCommit, IsUnchanged, MayPrepare, MayCheck, MayDecide, MayAbort}
@@ -30,16 +33,17 @@ use Rattle.check_protocol.specs.declared.labelled.Ack.{Ack}
 use Rattle.check_protocol.specs.declared.labelled.Ack.TheVariants as word
 use Rattle.check_protocol.specs.declared.labelled.Labelled.{Labelled}
 use Rattle.check_protocol.specs.Values.{ack_of, all_labelled, item_of, plan_in, writes_in, items_in, moment_in, same_request, same_span}
-use Rattle.check_protocol.specs.Started.{commit_started_in, open_in, owner_of, stopped_in, staged_in, deciding_in, asked_in, acknowledged_in, checked_in}
-use Rattle.check_protocol.specs.Rules.{is_sound, matches_reply, in_commit, is_put, puts_write, prepares_well, is_as_read, are_as_read, finds_read, checks_well, same_read, agrees_at, agrees, is_item_checked, decides_well, aborts_well}
+use Rattle.check_protocol.specs.Started.{commit_started_in, open_in, owner_of, stopped_in, staged_in, deciding_in, acknowledged_in, checked_in}
+use Rattle.check_protocol.specs.Rules.{is_sound, matches_reply, puts_asked, are_some, are_new, in_commit, is_put, puts_write, put_writes, prepares_well, is_as_read, are_as_read, finds_read, checks_well, same_read, agrees_at, agrees, is_item_checked, decides_well, aborts_well}
 use Rattle.check_protocol.proofs.Lists.{none_some, right, or_left, not_true, true_not, not_both, In, all_each, each_all, found_some, got_in, in_got, got_map, placed_each, each_placed}
-use Rattle.check_protocol.proofs.StateLaws.{is_deciding, is_later, taken_is, open_is, owner_is, stopped_is, staged_is, deciding_is, asked_is, told_is, checked_is}
+use Rattle.check_protocol.proofs.StateLaws.{is_deciding, is_later, taken_is, open_is, owner_is, stopped_is, staged_is, deciding_is, told_is, checked_is}
 use Rattle.check_protocol.proofs.ObservedLaws.{number_is, is_number}
-use Rattle.check_protocol.proofs.PlanLaws.{is_sound_of, write_is, write_in_is, write_own, written_at, noted_says, says_noted, got_says, says_got, says_scan, among_is}
+use Rattle.check_protocol.proofs.PlanLaws.{is_sound_of, write_in_is, write_own, written_at, noted_says, says_noted, got_says, says_got, says_scan, among_is}
 use Rattle.check_protocol.proofs.TakeLaws.{key_within, is_within}
 use Rattle.sdb_types.proofs.Public.{and_both as both, and_first as left, clash, decides as decide, either, or_second as or_right, same_key_exact, same_key_of, some_is}
 use Rattle.sdb_types.specs.Order.{same_key}
 use Rattle.check_protocol.proofs.Requests.{request_is, is_request}
+use Rattle.check_protocol.proofs.PutLaws.{asked_none, asked_sent, is_same_put, keys_some, none_asked, put_is, sent_asked, some_keys, some_of}
 
 ---- calls
 
@@ -54,6 +58,7 @@ is_span a b e = (span_is_exact a b).1 e
 fits_is : (w : Ack) (r : Reply) → matches_reply w r ≡ true → ack_of w ≡ reply_word r
 fits_is word.Yes reply.Applied h = refl
 fits_is word.No (reply.NotMet found) h = refl
+fits_is word.No (reply.NotAll place found) h = refl
 fits_is word.OutOfMemory reply.NoMemory h = refl
 fits_is word.NoAck (reply.Found found) h = refl
 fits_is word.NoAck (reply.Rows rows) h = refl
@@ -63,6 +68,7 @@ fits_is _ _ h = clash (sym h)
 is_fit : (w : Ack) (r : Reply) → ack_of w ≡ reply_word r → matches_reply w r ≡ true
 is_fit word.Yes reply.Applied e = refl
 is_fit word.No (reply.NotMet found) e = refl
+is_fit word.No (reply.NotAll place found) e = refl
 is_fit word.OutOfMemory reply.NoMemory e = refl
 is_fit word.NoAck (reply.Found found) e = refl
 is_fit word.NoAck (reply.Rows rows) e = refl
@@ -96,58 +102,115 @@ preparing_is Preparing h = refl
 preparing_is Checking h = clash h
 preparing_is Deciding h = clash h
 
-record Puts (t : ℕ) (now : ℤ) (q : Request) (o : Option Write) : Type 0 where
+record Puts (t : ℕ) (now : ℤ) (p : Put) (o : Option Write) : Type 0 where
   w : Write
   is : o ≡ Some w
-  same : q ≡ ask.PutIf (prepared_record w (id t) now) (condition_of (version_of w.base))
+  same : p ≡ prepare_of (id t) now w
 
-puts_is : (t : ℕ) (now : ℤ) (q : Request) (o : Option Write) → puts_write t now q o ≡ true → Puts t now q o
-puts_is t now q None h = clash (sym h)
-puts_is t now q (Some w) h = by (is_sound w) h
+puts_is : (t : ℕ) (now : ℤ) (p : Put) (o : Option Write) → puts_write t now o p ≡ true → Puts t now p o
+puts_is t now p None h = clash (sym h)
+puts_is t now p (Some w) h = by (is_sound w) h
   where
-    by : (b : Bool) → is_put q (Some w) (if b then Some (prepared_record w (id t) now) else None) ≡ true → Puts t now q (Some w)
-    by true f = record { w = w; is = refl; same = request_is q (ask.PutIf (prepared_record w (id t) now) (condition_of (version_of w.base))) f }
+    by : (b : Bool) → is_put p (Some w) (if b then Some (prepared_record w (id t) now) else None) ≡ true → Puts t now p (Some w)
+    by true f = record { w = w; is = refl; same = put_is p (prepare_of (id t) now w) f }
     by false f = clash (sym f)
 
-pub prepare_is : (past : List Labelled) (plans : List Plan) (e : Event) (t : ℕ) (k : Key) (w : Ack) → prepares_well past plans e t k w ≡ true → MayPrepare (plan_in plans) (all_labelled past) e t k (ack_of w)
-prepare_is past plans (event.Call client store q how r answered) t k w h =
+-- the writes that puts prepare
+record Grouped (t : ℕ) (now : ℤ) (ws : List Write) (ks : List Key) (ps : List Put) : Type 0 where
+  group : List Write
+  keys : ks ≡ keys_of_writes group
+  each : AllByRecursion (λ (w : Write). write_among ws w.key ≡ Some w) group
+  puts : ps ≡ map (prepare_of (id t) now) group
+
+grouped_is : (t : ℕ) (now : ℤ) (ws : List Write) (ks : List Key) (ps : List Put) → put_writes t now ws ks ps ≡ true → Grouped t now ws ks ps
+grouped_is t now ws [] [] h = record { group = []; keys = refl; each = tt; puts = refl }
+grouped_is t now ws (k ∷ ks) (p ∷ ps) h =
+    let first = puts_write t now (write_among ws k) p in
+    let w = puts_is t now p (write_among ws k) (left first (put_writes t now ws ks ps) h) in
+    let rest = grouped_is t now ws ks ps (right first (put_writes t now ws ks ps) h) in
+    let key = sym (write_in_is ws k w.w w.is).1 in
+    record { group = w.w ∷ rest.group; keys = λ i. key i ∷ rest.keys i; each = (write_own ws k w.w w.is, rest.each); puts = λ i. w.same i ∷ rest.puts i }
+grouped_is t now ws [] (p ∷ ps) h = clash (sym h)
+grouped_is t now ws (k ∷ ks) [] h = clash (sym h)
+
+-- a group of the writes of a plan
+each_at : (plans : List Plan) (t : ℕ) (g : List Write) → AllByRecursion (λ (w : Write). write_among (writes_in plans t) w.key ≡ Some w) g → AllByRecursion (λ (w : Write). write_at (plan_in plans t) w.key ≡ Some w) g
+unfolding write_at
+each_at plans t g each = each
+
+at_each : (plans : List Plan) (t : ℕ) (g : List Write) → AllByRecursion (λ (w : Write). write_at (plan_in plans t) w.key ≡ Some w) g → AllByRecursion (λ (w : Write). write_among (writes_in plans t) w.key ≡ Some w) g
+unfolding write_at
+at_each plans t g each = each
+
+write_put : (t : ℕ) (now : ℤ) (o : Option Write) (w : Write) → IsWrite w → o ≡ Some w → puts_write t now o (prepare_of (id t) now w) ≡ true
+write_put t now o w sound own =
+    let p : Put = prepare_of (id t) now w in
+    ap (λ x. puts_write t now x p) own ∙ ap (λ b. is_put p (Some w) (if b then Some (prepared_record w (id t) now) else None)) (is_sound_of w sound) ∙ is_same_put p
+
+group_put : (t : ℕ) (now : ℤ) (ws g : List Write) → AllByRecursion IsWrite g → AllByRecursion (λ (w : Write). write_among ws w.key ≡ Some w) g → put_writes t now ws (keys_of_writes g) (map (prepare_of (id t) now) g) ≡ true
+group_put t now ws [] sound own = refl
+group_put t now ws (w ∷ g) sound own =
+    both (puts_write t now (write_among ws w.key) (prepare_of (id t) now w)) (put_writes t now ws (keys_of_writes g) (map (prepare_of (id t) now) g))
+    (write_put t now (write_among ws w.key) w sound.0 own.0)
+    (group_put t now ws g sound.1 own.1)
+
+pub prepare_is : (past : List Labelled) (plans : List Plan) (e : Event) (t : ℕ) (ks : List Key) (w : Ack) → prepares_well past plans e t ks w ≡ true → MayPrepare (plan_in plans) (all_labelled past) e t ks (ack_of w)
+prepare_is past plans (event.Call client store q how r answered) t ks w h =
+    let now = moment_in plans t in
+    let f = put_writes t now (writes_in plans t) ks in
     let new = not (staged_in past t) in
-    let once = not (asked_in past t k) in
-    let puts = puts_write t (moment_in plans t) q (write_among (writes_in plans t) k) in
-    let one = right (in_commit past client t) (matches_reply w r && ((new && once) && puts)) h in
-    let two = right (matches_reply w r) ((new && once) && puts) one in
-    let three = left (new && once) puts two in
-    let p = puts_is t (moment_in plans t) q (write_among (writes_in plans t) k) (right (new && once) puts two) in
+    let once = are_new past t ks in
+    let puts = option_map_or f (puts_asked q) false in
+    let one = right (in_commit past client t) (matches_reply w r && ((new && once) && (are_some ks && puts))) h in
+    let two = right (matches_reply w r) ((new && once) && (are_some ks && puts)) one in
+    let three = left (new && once) (are_some ks && puts) two in
+    let four = right (new && once) (are_some ks && puts) two in
+    let many = some_keys ks (left (are_some ks) puts four) in
+    let p = some_of f (puts_asked q) (right (are_some ks) puts four) in
+    let g = grouped_is t now (writes_in plans t) ks p.0 p.2 in
+    let same = asked_sent q p.0 p.1 ∙ ap sent g.puts in
     record {
       client = client;
-      write = p.w;
+      group = g.group;
       r = r;
-      within = in_commit_is past client t (left (in_commit past client t) (matches_reply w r && ((new && once) && puts)) h);
-      at = write_is plans t k ∙ p.is;
-      call = record { store = store; how = how; answer = answered; call = λ i. event.Call client store (p.same i) how r answered };
-      word_is = fits_is w r (left (matches_reply w r) ((new && once) && puts) one);
+      within = in_commit_is past client t (left (in_commit past client t) (matches_reply w r && ((new && once) && (are_some ks && puts))) h);
+      keys = g.keys;
+      some = many.0;
+      once_each = many.1;
+      each = each_at plans t g.group g.each;
+      call = record { store = store; how = how; answer = answered; call = λ i. event.Call client store (same i) how r answered };
+      word_is = fits_is w r (left (matches_reply w r) ((new && once) && (are_some ks && puts)) one);
       stage = preparing_is ((protocol_state (all_labelled past)).stage t) (staged_is past t ∙ not_true (staged_in past t) (left new once three));
-      once = asked_is past t k ∙ not_true (asked_in past t k) (right new once three);
+      once = none_asked past t ks (right new once three);
     }
-prepare_is past plans (event.Take client text answer) t k w h = clash (sym h)
-prepare_is past plans (event.Stop client) t k w h = clash (sym h)
-prepare_is past plans (event.Clock moment) t k w h = clash (sym h)
-prepare_is past plans (event.Idle client) t k w h = clash (sym h)
-prepare_is past plans (event.Land number store asked how reply) t k w h = clash (sym h)
-prepare_is past plans (event.Alter table column kind altered) t k w h = clash (sym h)
+prepare_is past plans (event.Take client text answer) t ks w h = clash (sym h)
+prepare_is past plans (event.Stop client) t ks w h = clash (sym h)
+prepare_is past plans (event.Clock moment) t ks w h = clash (sym h)
+prepare_is past plans (event.Idle client) t ks w h = clash (sym h)
+prepare_is past plans (event.Land number store asked how reply) t ks w h = clash (sym h)
+prepare_is past plans (event.Alter table column kind altered) t ks w h = clash (sym h)
 
-pub is_prepare : (past : List Labelled) (plans : List Plan) (e : Event) (t : ℕ) (k : Key) (w : Ack) (m : MayPrepare (plan_in plans) (all_labelled past) e t k (ack_of w)) → IsWrite m.write → prepares_well past plans e t k w ≡ true
-is_prepare past plans e t k w m sound =
-    let q = ask.PutIf (prepared_record m.write (id t) (moment_in plans t)) (condition_of (version_of m.write.base)) in
+-- each write of a group has the form of records, where those of its plan have
+pub each_sound : (p : law.Plan) (g : List Write) → ((k : Key) (w : Write) → write_at p k ≡ Some w → IsWrite w) → AllByRecursion (λ (w : Write). write_at p w.key ≡ Some w) g → AllByRecursion IsWrite g
+each_sound p [] sound each = tt
+each_sound p (w ∷ g) sound each = (sound w.key w each.0, each_sound p g sound each.1)
+
+pub is_prepare : (past : List Labelled) (plans : List Plan) (e : Event) (t : ℕ) (ks : List Key) (w : Ack) (m : MayPrepare (plan_in plans) (all_labelled past) e t ks (ack_of w)) → AllByRecursion IsWrite m.group → prepares_well past plans e t ks w ≡ true
+is_prepare past plans e t ks w m sound =
+    let now = moment_in plans t in
+    let ws = writes_in plans t in
+    let f = put_writes t now ws ks in
+    let ps = map (prepare_of (id t) now) m.group in
     let new = not (staged_in past t) in
-    let once = not (asked_in past t k) in
-    let puts = puts_write t (moment_in plans t) q (write_among (writes_in plans t) k) in
-    ap (λ x. prepares_well past plans x t k w) m.call.call
-    ∙ both (in_commit past m.client t) (matches_reply w m.r && ((new && once) && puts)) (is_in_commit past m.client t m.within)
-    (both (matches_reply w m.r) ((new && once) && puts) (is_fit w m.r m.word_is)
-    (both (new && once) puts
-    (both new once (true_not (staged_in past t) (sym (staged_is past t) ∙ ap is_later m.stage)) (true_not (asked_in past t k) (sym (asked_is past t k) ∙ m.once)))
-    (ap (puts_write t (moment_in plans t) q) (sym (write_is plans t k) ∙ m.at) ∙ ap (λ b. is_put q (Some m.write) (if b then Some (prepared_record m.write (id t) (moment_in plans t)) else None)) (is_sound_of m.write sound) ∙ is_request q q refl)))
+    let once = are_new past t ks in
+    let puts = option_map_or f (puts_asked (sent ps)) false in
+    ap (λ x. prepares_well past plans x t ks w) m.call.call
+    ∙ both (in_commit past m.client t) (matches_reply w m.r && ((new && once) && (are_some ks && puts))) (is_in_commit past m.client t m.within)
+    (both (matches_reply w m.r) ((new && once) && (are_some ks && puts)) (is_fit w m.r m.word_is)
+    (both (new && once) (are_some ks && puts)
+    (both new once (true_not (staged_in past t) (sym (staged_is past t) ∙ ap is_later m.stage)) (asked_none past t ks m.once))
+    (both (are_some ks) puts (keys_some ks m.some m.once_each)
+    (ap (λ o. option_map_or f o false) (sent_asked ps) ∙ ap (λ qs. put_writes t now ws qs ps) m.keys ∙ group_put t now ws m.group sound (at_each plans t m.group m.each)))))
 
 ---- checks
 

@@ -22,7 +22,7 @@ use Rattle.check_protocol.proofs.StateLaws.{taken_is, asked_is, won_is, dead_is,
 use Rattle.check_protocol.proofs.ObservedLaws.{in_more, more_in, last_in, number_is, commit_shown, shows_commit_of, abort_shown, shows_abort_of, moment_shown, shown_moment}
 use Rattle.check_protocol.proofs.PlanLaws.{is_sound_of, write_is}
 use Rattle.sdb_types.proofs.Public.{and_both as both, and_first as left, clash, either, or_second as or_right, some_is}
-use Rattle.sdb_types.specs.Order.{same_key}
+use Rattle.sdb_types.specs.Order.{has_key}
 use Rattle.sdb_record.specs.Among.{write_among}
 
 ---- decisions that are known
@@ -137,7 +137,7 @@ ask_taken : (plans : List Plan) (past : List Labelled) (p : Labelled) (t : ℕ) 
 ask_taken plans past p t k m h = by p.action m h
   where
     by : (r : Action) → IsEnabled (plan_in plans) (all_labelled past) p.event (action_of r) → is_prepare_of t k r ≡ true → commit_started_in past t ≡ true
-    by (action.Prepares u q w) m h = subst (λ x. commit_started_in past x ≡ true) (sym (number_is t u.0 (left (t == u.0) (same_key k q) h))) (sym (taken_is past u.0) ∙ m.within.accepted)
+    by (action.Prepares u ks w) m h = subst (λ x. commit_started_in past x ≡ true) (sym (number_is t u.0 (left (t == u.0) (has_key ks k) h))) (sym (taken_is past u.0) ∙ m.within.accepted)
     by _ m h = clash (sym h)
 
 pub lawful_asked : (plans : List Plan) (past : List Labelled) (t : ℕ) (k : Key) → IsLawful (plan_in plans) (all_labelled past) → asked_in past t k ≡ true → commit_started_in past t ≡ true

@@ -1,10 +1,11 @@
 -- The test of a call that was delayed decides its rule; and which events may occur.
-use Rattle.std.proofs.Common.{◌≡◌, ℕ, Bool, true, false, List, [], ◌∷◌, ◌⊎◌, inl, inr, refl, sym, ap, subst, ◌∙◌, Option}
-use Rattle.std.specs.Prelude.{◌&&◌, ◌||◌, ◌==◌}
+use Rattle.std.proofs.Common.{◌≡◌, ℕ, Bool, true, List, [], ◌∷◌, inl, inr, refl, sym, ap, ◌∙◌, Option}
+use Rattle.std.specs.Prelude.{◌&&◌, ◌==◌}
 use Rattle.std.specs.Cmp.{first_so, second_so, signed_Decides, unsigned_Decides}
+use Rattle.std.specs.Cmp.Lexicographic.{pointwise, pointwise_decides}
 use Rattle.std.specs.List.{list_any}
 use Rattle.std.specs.Ordering.{int_eq}
-use Rattle.check_protocol.specs.Types.{Answer, Decision, Event, How, Key, Reply, Request, TxId}
+use Rattle.check_protocol.specs.Types.{Answer, Event, Request, TxId}
 use Rattle.sdb_types.specs.Exactness.{IsExact, id_is_exact, key_is_exact}
 use Rattle.sdb_types.specs.contracts.key.KeyPartialEq.TheImpl as key_eq
 use Rattle.sdb_types.specs.contracts.txid.TxIdPartialEq.TheImpl as id_eq
@@ -14,7 +15,7 @@ use Rattle.sdb_record.specs.contracts.coordinator.DecisionPartialEq.TheImpl as d
 use Rattle.sdb_record.specs.declared.coordinator.Decision.TheVariants as decision
 use Rattle.sdb_model.specs.Rows.{Name}
 use Rattle.sdb_model.specs.declared.event.Event.TheVariants as event
-use Rattle.sdb_model.specs.declared.event.How.TheVariants.{Seen, Lost, Discarded, Delayed, Broken}
+use Rattle.sdb_model.specs.declared.event.How.TheVariants.{Delayed}
 use Rattle.law_protocol.specs.Lawful.{WasDelayed}
 use Rattle.check_protocol.specs.contracts.labelled.AckPartialEq.TheImpl as ack_eq
 use Rattle.check_protocol.specs.contracts.labelled.ActionPartialEq.TheImpl as action_eq
@@ -23,7 +24,7 @@ use Rattle.check_protocol.specs.declared.labelled.Ack.TheVariants as ack
 use Rattle.check_protocol.specs.declared.labelled.Action.{Action}
 use Rattle.check_protocol.specs.declared.labelled.Action.TheVariants as action
 use Rattle.check_protocol.specs.declared.labelled.Labelled.{Labelled}
-use Rattle.check_protocol.specs.Values.{ack_of, action_of, all_labelled, same_request}
+use Rattle.check_protocol.specs.Values.{ack_of, action_of, all_labelled}
 use Rattle.check_protocol.specs.Rules.{delays, same_action, was_delayed}
 use Rattle.check_protocol.proofs.Lists.{right, or_left}
 use Rattle.check_protocol.proofs.Requests.{request_is, is_request}
@@ -44,17 +45,20 @@ pub action_is_one : (a b : Action) → action_of a ≡ action_of b → a ≡ b
 action_is_one action.Other action.Other e = refl
 action_is_one (action.Begins t c) (action.Begins u d) e = let id : t.0 ≡ u.0 = cc in let client : c ≡ d = cc in λ i. action.Begins (id_of t u id i) (client i)
 action_is_one (action.Takes t) (action.Takes u) e = let id : t.0 ≡ u.0 = cc in λ i. action.Takes (id_of t u id i)
-action_is_one (action.Prepares t k v) (action.Prepares u q w) e = let id : t.0 ≡ u.0 = cc in let key : k ≡ q = cc in let acked : ack_of v ≡ ack_of w = cc in λ i. action.Prepares (id_of t u id i) (key i) (ack_is_one v w acked i)
+action_is_one (action.Prepares t ks v) (action.Prepares u qs w) e = let id : t.0 ≡ u.0 = cc in let keys : ks ≡ qs = cc in let acked : ack_of v ≡ ack_of w = cc in λ i. action.Prepares (id_of t u id i) (keys i) (ack_is_one v w acked i)
 action_is_one (action.Checks t n) (action.Checks u m) e = let id : t.0 ≡ u.0 = cc in let item : n ≡ m = cc in λ i. action.Checks (id_of t u id i) (item i)
 action_is_one (action.Decides t v) (action.Decides u w) e = let id : t.0 ≡ u.0 = cc in let acked : ack_of v ≡ ack_of w = cc in λ i. action.Decides (id_of t u id i) (ack_is_one v w acked i)
 action_is_one (action.Aborts t m v) (action.Aborts u n w) e = let id : t.0 ≡ u.0 = cc in let moment : m ≡ n = cc in let acked : ack_of v ≡ ack_of w = cc in λ i. action.Aborts (id_of t u id i) (moment i) (ack_is_one v w acked i)
-action_is_one (action.Rolls t k d) (action.Rolls u q f) e = let id : t.0 ≡ u.0 = cc in let key : k ≡ q = cc in let way : d ≡ f = cc in λ i. action.Rolls (id_of t u id i) (key i) (way i)
+action_is_one (action.Rolls t ks d) (action.Rolls u qs f) e = let id : t.0 ≡ u.0 = cc in let keys : ks ≡ qs = cc in let way : d ≡ f = cc in λ i. action.Rolls (id_of t u id i) (keys i) (way i)
 action_is_one (action.Removes k t) (action.Removes q u) e = let id : t.0 ≡ u.0 = cc in let key : k ≡ q = cc in λ i. action.Removes (key i) (id_of t u id i)
 action_is_one (action.Ends t) (action.Ends u) e = let id : t.0 ≡ u.0 = cc in λ i. action.Ends (id_of t u id i)
 action_is_one (action.Stops c) (action.Stops d) e = let client : c ≡ d = cc in ap action.Stops client
 action_is_one a b e = absurd (cc)
 
 ---- the test of actions
+
+keys_are_exact : IsExact (pointwise (key_eq.ghosts).eq)
+keys_are_exact = pointwise_decides key_is_exact
 
 ack_is_exact : IsExact (ack_eq.ghosts).eq
 ack_is_exact ack.Yes ack.Yes = (λ h. refl, λ e. refl)
@@ -75,12 +79,12 @@ action_is_exact (action.Begins t c) (action.Begins u d) =
     let y = c == d in
     (λ h i. action.Begins ((id_is_exact t u).0 (first_so x y h) i) ((unsigned_Decides c d).0 (second_so x y h) i), λ e. both x y ((id_is_exact t u).1 (cc)) ((unsigned_Decides c d).1 (cc)))
 action_is_exact (action.Takes t) (action.Takes u) = (λ h. ap action.Takes ((id_is_exact t u).0 h), λ e. (id_is_exact t u).1 (cc))
-action_is_exact (action.Prepares t k v) (action.Prepares u q w) =
+action_is_exact (action.Prepares t ks v) (action.Prepares u qs w) =
     let x = (id_eq.ghosts).eq t u in
-    let y = (key_eq.ghosts).eq k q in
+    let y = pointwise (key_eq.ghosts).eq ks qs in
     let z = (ack_eq.ghosts).eq v w in (
-      λ h i. action.Prepares ((id_is_exact t u).0 (first_so x (y && z) h) i) ((key_is_exact k q).0 (first_so y z (second_so x (y && z) h)) i) ((ack_is_exact v w).0 (second_so y z (second_so x (y && z) h)) i),
-      λ e. both x (y && z) ((id_is_exact t u).1 (cc)) (both y z ((key_is_exact k q).1 (cc)) ((ack_is_exact v w).1 (cc))),
+      λ h i. action.Prepares ((id_is_exact t u).0 (first_so x (y && z) h) i) ((keys_are_exact ks qs).0 (first_so y z (second_so x (y && z) h)) i) ((ack_is_exact v w).0 (second_so y z (second_so x (y && z) h)) i),
+      λ e. both x (y && z) ((id_is_exact t u).1 (cc)) (both y z ((keys_are_exact ks qs).1 (cc)) ((ack_is_exact v w).1 (cc))),
     )
 action_is_exact (action.Checks t n) (action.Checks u m) =
     let x = (id_eq.ghosts).eq t u in
@@ -97,12 +101,12 @@ action_is_exact (action.Aborts t m v) (action.Aborts u n w) =
       λ h i. action.Aborts ((id_is_exact t u).0 (first_so x (y && z) h) i) ((signed_Decides m n).0 (first_so y z (second_so x (y && z) h)) i) ((ack_is_exact v w).0 (second_so y z (second_so x (y && z) h)) i),
       λ e. both x (y && z) ((id_is_exact t u).1 (cc)) (both y z ((signed_Decides m n).1 (cc)) ((ack_is_exact v w).1 (cc))),
     )
-action_is_exact (action.Rolls t k d) (action.Rolls u q f) =
+action_is_exact (action.Rolls t ks d) (action.Rolls u qs f) =
     let x = (id_eq.ghosts).eq t u in
-    let y = (key_eq.ghosts).eq k q in
+    let y = pointwise (key_eq.ghosts).eq ks qs in
     let z = (decision_eq.ghosts).eq d f in (
-      λ h i. action.Rolls ((id_is_exact t u).0 (first_so x (y && z) h) i) ((key_is_exact k q).0 (first_so y z (second_so x (y && z) h)) i) ((decision_is_exact d f).0 (second_so y z (second_so x (y && z) h)) i),
-      λ e. both x (y && z) ((id_is_exact t u).1 (cc)) (both y z ((key_is_exact k q).1 (cc)) ((decision_is_exact d f).1 (cc))),
+      λ h i. action.Rolls ((id_is_exact t u).0 (first_so x (y && z) h) i) ((keys_are_exact ks qs).0 (first_so y z (second_so x (y && z) h)) i) ((decision_is_exact d f).0 (second_so y z (second_so x (y && z) h)) i),
+      λ e. both x (y && z) ((id_is_exact t u).1 (cc)) (both y z ((keys_are_exact ks qs).1 (cc)) ((decision_is_exact d f).1 (cc))),
     )
 action_is_exact (action.Removes k t) (action.Removes q u) =
     let x = (key_eq.ghosts).eq k q in

@@ -3,6 +3,7 @@ mod StateLaws
 mod ObservedLaws
 mod SettledLaws
 mod Requests
+mod PutLaws
 mod LateLaws
 mod PlanLaws
 mod TakeLaws

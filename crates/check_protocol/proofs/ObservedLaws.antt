@@ -102,6 +102,8 @@ reply_in (reply.Rows rows) found x i = rows_in rows rows found x i
 reply_in reply.Applied found x i = inl i
 reply_in (reply.NotMet None) found x i = inl i
 reply_in (reply.NotMet (Some r)) found x i = in_more found r x i
+reply_in (reply.NotAll place None) found x i = inl i
+reply_in (reply.NotAll place (Some r)) found x i = in_more found r x i
 reply_in reply.Fault found x i = inl i
 reply_in reply.NoMemory found x i = inl i
 
@@ -112,6 +114,8 @@ reply_keeps (reply.Rows rows) found x i = rows_keep rows rows found x i
 reply_keeps reply.Applied found x i = i
 reply_keeps (reply.NotMet None) found x i = i
 reply_keeps (reply.NotMet (Some r)) found x i = more_in found r x i
+reply_keeps (reply.NotAll place None) found x i = i
+reply_keeps (reply.NotAll place (Some r)) found x i = more_in found r x i
 reply_keeps reply.Fault found x i = i
 reply_keeps reply.NoMemory found x i = i
 
@@ -122,6 +126,8 @@ reply_has (reply.Rows rows) found x i = rows_have rows rows found x (found_in (�
 reply_has reply.Applied found x i = absurd i
 reply_has (reply.NotMet None) found x i = absurd i
 reply_has (reply.NotMet (Some r)) found x i = subst (λ y. In (found ++ r ∷ []) y) (sym i) (last_in found r)
+reply_has (reply.NotAll place None) found x i = absurd i
+reply_has (reply.NotAll place (Some r)) found x i = subst (λ y. In (found ++ r ∷ []) y) (sym i) (last_in found r)
 reply_has reply.Fault found x i = absurd i
 reply_has reply.NoMemory found x i = absurd i
 

@@ -1,35 +1,40 @@
 -- The tests of rolls and of removals decide their rules.
-use Rattle.std.proofs.Common.{◌≡◌, ℕ, Bool, true, false, List, Option, Some, None, inl, inr, refl, sym, ap, ◌∙◌}
-use Rattle.std.specs.Prelude.{◌&&◌, ◌||◌, ◌==◌, not, find}
-use Rattle.std.specs.Option.{option_map_or}
-use Rattle.std.specs.List.{list_any}
+use Rattle.std.proofs.Common.{◌≡◌, ℕ, Bool, true, false, List, [], ◌∷◌, map, Option, Some, None, inl, inr, refl, sym, ap, subst, ◌∙◌}
+use Rattle.std.specs.Prelude.{ℤ, ◌&&◌, ◌||◌, ◌==◌, not, find}
+use Rattle.std.specs.Option.{option_map, option_map_or}
+use Rattle.std.specs.List.{AllByRecursion, list_any}
+use Rattle.sdb_types.specs.Contents.{sent}
 use Rattle.sdb_types.specs.Order.{same_key}
-use Rattle.check_protocol.specs.Types.{Answer, Condition, Decision, Event, How, Key, Record, Reply, Request, State, Write}
+use Rattle.check_protocol.specs.Types.{Answer, Condition, Decision, Event, How, Key, Put, Record, Reply, Request, State, Write}
 use Rattle.sdb_types.specs.declared.record.State.TheVariants as state
 use Rattle.sdb_types.specs.declared.record.Condition.TheVariants as condition
 use Rattle.sdb_types.specs.declared.record.Request.TheVariants as ask
 use Rattle.sdb_record.specs.declared.coordinator.Decision.TheVariants as decision
 use Rattle.sdb_record.specs.Meta.{is_committed}
 use Rattle.sdb_record.specs.Parts.{before_record}
-use Rattle.sdb_record.specs.Rolls.{IsWrite, forward_record, undo}
+use Rattle.sdb_record.specs.Among.{write_among}
+use Rattle.sdb_record.specs.Rolls.{IsWrite, forward_record, prepared_record, undo}
+use Rattle.sdb_record.proofs.Public.{prepared-key}
 use Rattle.sdb_model.specs.declared.event.Event.TheVariants as event
 use Rattle.sdb_model.specs.Rows.{Name}
 use Rattle.law_protocol.specs.Plan.{write_at}
-use Rattle.law_protocol.specs.Lawful.{id, protocol_state, IsPreparedThere, MayRollForward, MayRollBack, MayRollBy, MayRemove}
+use Rattle.law_protocol.specs.Lawful.{id, protocol_state, IsPreparedThere, roll_forward_of, MayRoll, MayRollForward, MayRollBack, MayRollBy, MayRemove}
 use Rattle.check_protocol.specs.declared.plan.Plan.{Plan}
 use Rattle.check_protocol.specs.declared.labelled.Action.{Action}
 use Rattle.check_protocol.specs.declared.labelled.Action.TheVariants as action
 use Rattle.check_protocol.specs.declared.labelled.Labelled.{Labelled}
-use Rattle.check_protocol.specs.Values.{all_labelled, plan_in}
+use Rattle.check_protocol.specs.Values.{all_labelled, moment_in, plan_in, writes_in}
 use Rattle.check_protocol.specs.Started.{is_begin_of, touches, opens, ends_with, open_in, owner_of, stopped_in}
-use Rattle.check_protocol.specs.Observed.{observed, is_prepared_by, is_before_image_of, has_no_before, is_forward, settles_removed}
-use Rattle.check_protocol.specs.Rules.{own, known_moments, is_rolled_forward, rolls_open, rolls_forward, is_put_back, is_rolled_back, undoes, rolls_back, rolls_well, is_left, is_shut, are_shut, removes_version, removes_well, is_known_aborted}
-use Rattle.check_protocol.proofs.Lists.{right, or_left, not_true, true_not, not_both, any_some, some_any, all_each, each_all, found_in}
+use Rattle.check_protocol.specs.Observed.{observed, is_prepared_by, is_before_image_of, has_no_before, is_forward_at, settles_removed}
+use Rattle.check_protocol.specs.Rules.{are_some, puts_asked, own, known_moments, is_rolled_forward, rolls_open, rolls_at, roll_each, roll_together, rolls_forward, is_put_back, is_rolled_back, undoes, rolls_back, rolls_well, is_left, is_shut, are_shut, removes_version, removes_well, is_known_aborted}
+use Rattle.check_protocol.proofs.PlanLaws.{write_is, write_in_is}
+use Rattle.check_protocol.proofs.Lists.{none_some, right, or_left, not_true, true_not, not_both, any_some, some_any, all_each, each_all, found_in}
 use Rattle.check_protocol.proofs.StateLaws.{open_is, owner_is, stopped_is}
-use Rattle.check_protocol.proofs.ObservedLaws.{number_is, is_number, is_shown, forward_is, is_forward_at, kept_is, is_kept_of, keeps_none_is, is_keeps_none}
+use Rattle.check_protocol.proofs.ObservedLaws.{number_is, is_number, is_shown, record_is, is_record, kept_is, is_kept_of, keeps_none_is, is_keeps_none}
+use Rattle.check_protocol.proofs.PutLaws.{asked_sent, keys_some, sent_asked, some_keys, some_of}
 use Rattle.check_protocol.proofs.SettledLaws.{held_by, is_held_by_of, gone_is, gone_of}
 use Rattle.check_protocol.proofs.KnownLaws.{moment_known, known_moment, aborted_is, is_aborted, own_is, is_own}
-use Rattle.sdb_types.proofs.Public.{and_both as both, and_first as left, clash, decides as decide, either, or_second as or_right, same_key_exact, same_key_of}
+use Rattle.sdb_types.proofs.Public.{and_both as both, and_first as left, clash, decides as decide, either, or_second as or_right, same_key_exact, same_key_of, some_is}
 use Rattle.sdb_model.specs.Tables.{is_data}
 
 -- each write of a key that it has asked to prepare has the form of records
@@ -78,43 +83,108 @@ is_rolled past plans t k f r sound (inl held) h =
 is_rolled past plans t k f r sound (inr mine) h =
     or_left (option_map_or f (own past plans t k) false) (list_any (λ r. is_prepared_by t k r && f r) (observed past)) (ap (λ o. option_map_or f o false) (is_own past plans t k r (sound mine.0) mine.0 mine.1) ∙ h)
 
+-- it is a record of that key
+there_key : (past : List Labelled) (plans : List Plan) (t : ℕ) (k : Key) (r : Record) → IsPreparedThere (plan_in plans) (all_labelled past) t k r → r.key ≡ k
+there_key past plans t k r (inl held) = held.key
+there_key past plans t k r (inr mine) = by (write_among (writes_in plans t) k) refl (sym (ap (option_map (λ w. prepared_record w (id t) (moment_in plans t))) (write_is plans t k)) ∙ mine.1)
+  where
+    by : (o : Option Write) → write_among (writes_in plans t) k ≡ o → option_map (λ w. prepared_record w (id t) (moment_in plans t)) o ≡ Some r → r.key ≡ k
+    by None e f = none_some f
+    by (Some w) e f = ap (λ (x : Record). x.key) (sym (some_is (prepared_record w (id t) (moment_in plans t)) r f)) ∙ prepared-key w (id t) (moment_in plans t) ∙ (write_in_is (writes_in plans t) k w e).1
+
 ---- rolls
 
-forward_put : (past : List Labelled) (plans : List Plan) (client : ℕ) (store : Name) (target : Record) (c : Condition) (how : How) (r : Reply) (answered : Option Answer) (t : ℕ) (k : Key)
-    → rolls_forward (observed past) past plans (event.Call client store (ask.PutIf target c) how r answered) t k ≡ true → MayRollForward (plan_in plans) (all_labelled past) (event.Call client store (ask.PutIf target c) how r answered) t k
-forward_put past plans client store target c how r answered t k h =
-    let ms = known_moments (observed past) past plans t in
-    let rest = right (rolls_open c t) (is_data k && is_rolled_forward (observed past) (own past plans t k) ms t k target) h in
-    let o = opens_is c t (left (rolls_open c t) (is_data k && is_rolled_forward (observed past) (own past plans t k) ms t k target) h) in
-    let x = rolled_is past plans t k (λ y. is_forward y ms target) (right (is_data k) (is_rolled_forward (observed past) (own past plans t k) ms t k target) rest) in
-    let f = forward_is x.r ms target x.holds in
+-- the record at a key that a put rolls forward
+record RollsAt (past : List Labelled) (plans : List Plan) (t : ℕ) (m : ℤ) (k : Key) (p : Put) : Type 0 where
+  x : Record × State
+  key : x.0.key ≡ k
+  roll : MayRoll (plan_in plans) (all_labelled past) t x.0.key x.0 x.1
+  put : p ≡ roll_forward_of (id t) m x
+
+rolls_at_is : (past : List Labelled) (plans : List Plan) (t : ℕ) (m : ℤ) (k : Key) (p : Put) → rolls_at (observed past) past plans t m k p ≡ true → RollsAt past plans t m k p
+rolls_at_is past plans t m k p h =
+    let there = is_rolled_forward (observed past) (own past plans t k) m t k p.rec in
+    let rest = right (rolls_open p.condition t) (is_data k && there) h in
+    let o = opens_is p.condition t (left (rolls_open p.condition t) (is_data k && there) h) in
+    let x = rolled_is past plans t k (λ y. is_forward_at y m p.rec) (right (is_data k) there rest) in
+    let key = there_key past plans t k x.r x.there in
+    let roll : MayRoll (plan_in plans) (all_labelled past) t k x.r o.s = record { is_open = o.is_open; outside = left (is_data k) there rest; prepared = x.there } in
+    let target = record_is p.rec (forward_record x.r m) x.holds in
+    record { x = (x.r, o.s); key = key; roll = subst (λ q. MayRoll (plan_in plans) (all_labelled past) t q x.r o.s) (sym key) roll; put = λ i. record { rec = target i; condition = o.is i } }
+
+-- the records at keys that puts roll forward, one after another
+record RollsEach (past : List Labelled) (plans : List Plan) (t : ℕ) (m : ℤ) (ks : List Key) (ps : List Put) : Type 0 where
+  rolled : List (Record × State)
+  keys : ks ≡ map (λ (x : Record × State). x.0.key) rolled
+  each : AllByRecursion (λ (x : Record × State). MayRoll (plan_in plans) (all_labelled past) t x.0.key x.0 x.1) rolled
+  puts : ps ≡ map (roll_forward_of (id t) m) rolled
+
+rolls_each_is : (past : List Labelled) (plans : List Plan) (t : ℕ) (m : ℤ) (ks : List Key) (ps : List Put) → roll_each (observed past) past plans t m ks ps ≡ true → RollsEach past plans t m ks ps
+rolls_each_is past plans t m [] [] h = record { rolled = []; keys = refl; each = tt; puts = refl }
+rolls_each_is past plans t m (k ∷ ks) (p ∷ ps) h =
+    let first = rolls_at (observed past) past plans t m k p in
+    let more = roll_each (observed past) past plans t m ks ps in
+    let x = rolls_at_is past plans t m k p (left first more h) in
+    let rest = rolls_each_is past plans t m ks ps (right first more h) in
+    let key = sym x.key in
+    record { rolled = x.x ∷ rest.rolled; keys = λ i. key i ∷ rest.keys i; each = (x.roll, rest.each); puts = λ i. x.put i ∷ rest.puts i }
+rolls_each_is past plans t m [] (p ∷ ps) h = clash (sym h)
+rolls_each_is past plans t m (k ∷ ks) [] h = clash (sym h)
+
+pub roll_forward_is : (past : List Labelled) (plans : List Plan) (e : Event) (t : ℕ) (ks : List Key) → rolls_forward (observed past) past plans e t ks ≡ true → MayRollForward (plan_in plans) (all_labelled past) e t ks
+roll_forward_is past plans (event.Call client store q how r answered) t ks h =
+    let f = roll_together (observed past) past plans t ks in
+    let puts = option_map_or f (puts_asked q) false in
+    let many = some_keys ks (left (are_some ks) puts h) in
+    let p = some_of f (puts_asked q) (right (are_some ks) puts h) in
+    let a = any_some (λ m. roll_each (observed past) past plans t m ks p.0) (known_moments (observed past) past plans t) p.2 in
+    let x = rolls_each_is past plans t a.0 ks p.0 a.2 in
+    let same = asked_sent q p.0 p.1 ∙ ap sent x.puts in
     record {
-      roll = record { client = client; rolled = x.r; s = o.s; r = r; is_open = o.is_open; outside = left (is_data k) (is_rolled_forward (observed past) (own past plans t k) ms t k target) rest; prepared = x.there };
-      moment = f.0;
-      known = moment_known past plans t f.0 f.1;
-      call = record { store = store; how = how; answer = answered; call = λ i. event.Call client store (ask.PutIf (f.2 i) (o.is i)) how r answered };
+      client = client;
+      rolled = x.rolled;
+      r = r;
+      keys = x.keys;
+      some = many.0;
+      once_each = many.1;
+      each = x.each;
+      moment = a.0;
+      known = moment_known past plans t a.0 a.1;
+      call = record { store = store; how = how; answer = answered; call = λ i. event.Call client store (same i) how r answered };
     }
+roll_forward_is past plans (event.Take client text answer) t ks h = clash (sym h)
+roll_forward_is past plans (event.Stop client) t ks h = clash (sym h)
+roll_forward_is past plans (event.Clock moment) t ks h = clash (sym h)
+roll_forward_is past plans (event.Idle client) t ks h = clash (sym h)
+roll_forward_is past plans (event.Land number store asked how reply) t ks h = clash (sym h)
+roll_forward_is past plans (event.Alter table column kind altered) t ks h = clash (sym h)
 
-pub roll_forward_is : (past : List Labelled) (plans : List Plan) (e : Event) (t : ℕ) (k : Key) → rolls_forward (observed past) past plans e t k ≡ true → MayRollForward (plan_in plans) (all_labelled past) e t k
-roll_forward_is past plans (event.Call client store (ask.PutIf target c) how r answered) t k h = forward_put past plans client store target c how r answered t k h
-roll_forward_is past plans (event.Call client store (ask.Get key) how r answered) t k h = clash (sym h)
-roll_forward_is past plans (event.Call client store (ask.Scan span) how r answered) t k h = clash (sym h)
-roll_forward_is past plans (event.Call client store (ask.DeleteIf key c) how r answered) t k h = clash (sym h)
-roll_forward_is past plans (event.Take client text answer) t k h = clash (sym h)
-roll_forward_is past plans (event.Stop client) t k h = clash (sym h)
-roll_forward_is past plans (event.Clock moment) t k h = clash (sym h)
-roll_forward_is past plans (event.Idle client) t k h = clash (sym h)
-roll_forward_is past plans (event.Land number store asked how reply) t k h = clash (sym h)
-roll_forward_is past plans (event.Alter table column kind altered) t k h = clash (sym h)
+is_rolls_at : (past : List Labelled) (plans : List Plan) (t : ℕ) (m : ℤ) (x : Record × State) → Sound past plans t x.0.key → MayRoll (plan_in plans) (all_labelled past) t x.0.key x.0 x.1 → rolls_at (observed past) past plans t m x.0.key (roll_forward_of (id t) m x) ≡ true
+is_rolls_at past plans t m x sound roll =
+    let k = x.0.key in
+    let target = forward_record x.0 m in
+    let there = is_rolled_forward (observed past) (own past plans t k) m t k target in
+    both (rolls_open (condition.Version (id t) x.1) t) (is_data k && there) (is_opens t x.1 roll.is_open)
+    (both (is_data k) there roll.outside (is_rolled past plans t k (λ y. is_forward_at y m target) x.0 sound roll.prepared (is_record target target refl)))
 
-pub is_roll_forward : (past : List Labelled) (plans : List Plan) (e : Event) (t : ℕ) (k : Key) → Sound past plans t k → MayRollForward (plan_in plans) (all_labelled past) e t k → rolls_forward (observed past) past plans e t k ≡ true
-is_roll_forward past plans e t k sound m =
-    let ms = known_moments (observed past) past plans t in
-    let target = forward_record m.roll.rolled m.moment in
-    ap (λ x. rolls_forward (observed past) past plans x t k) m.call.call
-    ∙ both (rolls_open (condition.Version (id t) m.roll.s) t) (is_data k && is_rolled_forward (observed past) (own past plans t k) ms t k target) (is_opens t m.roll.s m.roll.is_open)
-    (both (is_data k) (is_rolled_forward (observed past) (own past plans t k) ms t k target) m.roll.outside
-    (is_rolled past plans t k (λ y. is_forward y ms target) m.roll.rolled sound m.roll.prepared (is_forward_at m.roll.rolled ms target m.moment (known_moment past plans t m.moment m.known) refl)))
+is_rolls_each : (past : List Labelled) (plans : List Plan) (t : ℕ) (m : ℤ) (xs : List (Record × State)) → ((k : Key) → Sound past plans t k) → AllByRecursion (λ (x : Record × State). MayRoll (plan_in plans) (all_labelled past) t x.0.key x.0 x.1) xs
+    → roll_each (observed past) past plans t m (map (λ (x : Record × State). x.0.key) xs) (map (roll_forward_of (id t) m) xs) ≡ true
+is_rolls_each past plans t m [] sound each = refl
+is_rolls_each past plans t m (x ∷ xs) sound each =
+    both (rolls_at (observed past) past plans t m x.0.key (roll_forward_of (id t) m x)) (roll_each (observed past) past plans t m (map (λ (y : Record × State). y.0.key) xs) (map (roll_forward_of (id t) m) xs))
+    (is_rolls_at past plans t m x (sound x.0.key) each.0)
+    (is_rolls_each past plans t m xs sound each.1)
+
+pub is_roll_forward : (past : List Labelled) (plans : List Plan) (e : Event) (t : ℕ) (ks : List Key) → ((k : Key) → Sound past plans t k) → MayRollForward (plan_in plans) (all_labelled past) e t ks → rolls_forward (observed past) past plans e t ks ≡ true
+is_roll_forward past plans e t ks sound m =
+    let f = roll_together (observed past) past plans t ks in
+    let ps = map (roll_forward_of (id t) m.moment) m.rolled in
+    let puts = option_map_or f (puts_asked (sent ps)) false in
+    let at_moment : roll_each (observed past) past plans t m.moment ks ps ≡ true = ap (λ qs. roll_each (observed past) past plans t m.moment qs ps) m.keys ∙ is_rolls_each past plans t m.moment m.rolled sound m.each in
+    ap (λ y. rolls_forward (observed past) past plans y t ks) m.call.call
+    ∙ both (are_some ks) puts (keys_some ks m.some m.once_each)
+    (ap (λ o. option_map_or f o false) (sent_asked ps)
+    ∙ some_any (λ n. roll_each (observed past) past plans t n ks ps) (known_moments (observed past) past plans t) m.moment (known_moment past plans t m.moment m.known) at_moment)
 
 undo_is : (past : List Labelled) (plans : List Plan) (client : ℕ) (store : Name) (q : Request) (how : How) (r : Reply) (answered : Option Answer) (t : ℕ) (k : Key) → is_data k ≡ true → is_known_aborted (observed past) past t ≡ true
     → undoes (observed past) (own past plans t k) q t k ≡ true → MayRollBack (plan_in plans) (all_labelled past) (event.Call client store q how r answered) t k
@@ -123,7 +193,11 @@ undo_is past plans client store (ask.PutIf base c) how r answered t k outside kn
     let o = opens_is c t (left (rolls_open c t) back h) in
     let x = rolled_is past plans t k (λ y. is_before_image_of y base) (right (rolls_open c t) back h) in
     record {
-      roll = record { client = client; rolled = x.r; s = o.s; r = r; is_open = o.is_open; outside = outside; prepared = x.there };
+      client = client;
+      rolled = x.r;
+      s = o.s;
+      r = r;
+      roll = record { is_open = o.is_open; outside = outside; prepared = x.there };
       known = aborted_is past t known;
       call = record { store = store; how = how; answer = answered; call = (λ i. event.Call client store (ask.PutIf base (o.is i)) how r answered) ∙ ap (λ b. event.Call client store (undo (condition.Version (id t) o.s) k b) how r answered) (sym (kept_is x.r base x.holds)) };
     }
@@ -134,10 +208,15 @@ undo_is past plans client store (ask.DeleteIf key c) how r answered t k outside 
     let at = same_key_exact key k (left (same_key key k) back rest) in
     let x = rolled_is past plans t k has_no_before (right (same_key key k) back rest) in
     record {
-      roll = record { client = client; rolled = x.r; s = o.s; r = r; is_open = o.is_open; outside = outside; prepared = x.there };
+      client = client;
+      rolled = x.r;
+      s = o.s;
+      r = r;
+      roll = record { is_open = o.is_open; outside = outside; prepared = x.there };
       known = aborted_is past t known;
       call = record { store = store; how = how; answer = answered; call = (λ i. event.Call client store (ask.DeleteIf (at i) (o.is i)) how r answered) ∙ ap (λ b. event.Call client store (undo (condition.Version (id t) o.s) k b) how r answered) (sym (keeps_none_is x.r x.holds)) };
     }
+undo_is past plans client store (ask.PutAll b) how r answered t k outside known h = clash (sym h)
 undo_is past plans client store (ask.Get key) how r answered t k outside known h = clash (sym h)
 undo_is past plans client store (ask.Scan span) how r answered t k outside known h = clash (sym h)
 
@@ -163,19 +242,23 @@ is_undo past plans t k s r (Some base) sound open_state there e =
 
 pub is_roll_back : (past : List Labelled) (plans : List Plan) (e : Event) (t : ℕ) (k : Key) → Sound past plans t k → MayRollBack (plan_in plans) (all_labelled past) e t k → rolls_back (observed past) past plans e t k ≡ true
 is_roll_back past plans e t k sound m =
-    let q = undo (condition.Version (id t) m.roll.s) k (before_record m.roll.rolled) in
+    let q = undo (condition.Version (id t) m.s) k (before_record m.rolled) in
     let u = undoes (observed past) (own past plans t k) q t k in
     ap (λ x. rolls_back (observed past) past plans x t k) m.call.call
     ∙ both (is_data k) (is_known_aborted (observed past) past t && u) m.roll.outside
-    (both (is_known_aborted (observed past) past t) u (is_aborted past t m.known) (is_undo past plans t k m.roll.s m.roll.rolled (before_record m.roll.rolled) sound m.roll.is_open m.roll.prepared refl))
+    (both (is_known_aborted (observed past) past t) u (is_aborted past t m.known) (is_undo past plans t k m.s m.rolled (before_record m.rolled) sound m.roll.is_open m.roll.prepared refl))
 
-pub roll_is : (past : List Labelled) (plans : List Plan) (e : Event) (t : ℕ) (k : Key) (d : Decision) → rolls_well (observed past) past plans e t k d ≡ true → MayRollBy (plan_in plans) (all_labelled past) e t k d
-roll_is past plans e t k decision.Committed h = roll_forward_is past plans e t k h
-roll_is past plans e t k decision.Aborted h = roll_back_is past plans e t k h
+pub roll_is : (past : List Labelled) (plans : List Plan) (e : Event) (t : ℕ) (ks : List Key) (d : Decision) → rolls_well (observed past) past plans e t ks d ≡ true → MayRollBy (plan_in plans) (all_labelled past) e t ks d
+roll_is past plans e t ks decision.Committed h = roll_forward_is past plans e t ks h
+roll_is past plans e t [] decision.Aborted h = clash (sym h)
+roll_is past plans e t (k ∷ []) decision.Aborted h = roll_back_is past plans e t k h
+roll_is past plans e t (k ∷ l ∷ ks) decision.Aborted h = clash (sym h)
 
-pub is_roll : (past : List Labelled) (plans : List Plan) (e : Event) (t : ℕ) (k : Key) (d : Decision) → Sound past plans t k → MayRollBy (plan_in plans) (all_labelled past) e t k d → rolls_well (observed past) past plans e t k d ≡ true
-is_roll past plans e t k decision.Committed sound m = is_roll_forward past plans e t k sound m
-is_roll past plans e t k decision.Aborted sound m = is_roll_back past plans e t k sound m
+pub is_roll : (past : List Labelled) (plans : List Plan) (e : Event) (t : ℕ) (ks : List Key) (d : Decision) → ((k : Key) → Sound past plans t k) → MayRollBy (plan_in plans) (all_labelled past) e t ks d → rolls_well (observed past) past plans e t ks d ≡ true
+is_roll past plans e t ks decision.Committed sound m = is_roll_forward past plans e t ks sound m
+is_roll past plans e t [] decision.Aborted sound m = absurd m
+is_roll past plans e t (k ∷ []) decision.Aborted sound m = is_roll_back past plans e t k (sound k) m
+is_roll past plans e t (k ∷ l ∷ ks) decision.Aborted sound m = absurd m
 
 ---- removals
 
@@ -246,6 +329,7 @@ remove_call past plans client store key c how r answered k t h =
 
 pub remove_is : (past : List Labelled) (plans : List Plan) (e : Event) (k : Key) (t : ℕ) → removes_well (observed past) past e k t ≡ true → MayRemove (all_labelled past) e k t
 remove_is past plans (event.Call client store (ask.DeleteIf key c) how r answered) k t h = remove_call past plans client store key c how r answered k t h
+remove_is past plans (event.Call client store (ask.PutAll b) how r answered) k t h = clash (sym h)
 remove_is past plans (event.Call client store (ask.Get key) how r answered) k t h = clash (sym h)
 remove_is past plans (event.Call client store (ask.Scan span) how r answered) k t h = clash (sym h)
 remove_is past plans (event.Call client store (ask.PutIf target c) how r answered) k t h = clash (sym h)

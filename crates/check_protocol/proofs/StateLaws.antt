@@ -12,7 +12,7 @@ use Rattle.check_protocol.specs.Values.{action_of, all_labelled, ack_of}
 use Rattle.check_protocol.specs.Started.{is_begin_of, owner_in, is_take_of, is_prepare_of, is_applied, is_check_of, is_stage_of, is_decision, is_risk_of, is_win_of, is_death_of, is_meeting_of, is_stop_of, is_end_of, touches, opens, begun_in, owner_of, open_in, stopped_in, commit_started_in, asked_in, acknowledged_in, checked_in, staged_in, deciding_in, risked_in, won_in, dead_in, met_in}
 use Rattle.check_protocol.proofs.Lists.{if_or}
 use Rattle.sdb_types.proofs.Public.{clash}
-use Rattle.sdb_types.specs.Order.{same_key}
+use Rattle.sdb_types.specs.Order.{has_key}
 
 -- a test of a pair of conditions
 and_or : (a b x : Bool) → (if a && b then true else x) ≡ ((a && b) || x)
@@ -49,7 +49,7 @@ taken_is (p ∷ past) u =
 ---- asked
 
 asked_step : (h : ProtocolState) (r : Action) (u : ℕ) (q : Key) → (state_after_event h (action_of r)).asked u q ≡ (is_prepare_of u q r || h.asked u q)
-asked_step h (action.Prepares t k w) u q = if_or (u == t.0 && same_key q k) (h.asked u q)
+asked_step h (action.Prepares t ks w) u q = if_or (u == t.0 && has_key ks q) (h.asked u q)
 asked_step h _ u q = refl
 
 pub asked_is : (past : List Labelled) (u : ℕ) (q : Key) → (protocol_state (all_labelled past)).asked u q ≡ asked_in past u q
@@ -202,7 +202,7 @@ told_by : (a y x : Bool) → (if a then y else x) ≡ (if a then y else x)
 told_by a y x = refl
 
 told_step : (h : ProtocolState) (r : Action) (u : ℕ) (q : Key) → (state_after_event h (action_of r)).answered u q ≡ (if is_prepare_of u q r then is_applied r else h.answered u q)
-told_step h (action.Prepares t k w) u q = refl
+told_step h (action.Prepares t ks w) u q = refl
 told_step h _ u q = refl
 
 pub told_is : (past : List Labelled) (u : ℕ) (q : Key) → (protocol_state (all_labelled past)).answered u q ≡ acknowledged_in past u q

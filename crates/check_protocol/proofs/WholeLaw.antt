@@ -20,7 +20,7 @@ use Rattle.check_protocol.proofs.StateLaws.{taken_is, asked_is, risked_is}
 use Rattle.check_protocol.proofs.ObservedLaws.{number_is, is_number, bad_row_shown, shows_bad_row_of}
 use Rattle.check_protocol.proofs.LateLaws.{delayed_is, is_delayed}
 use Rattle.check_protocol.proofs.TakeLaws.{begin_is, is_begin, take_is, is_take}
-use Rattle.check_protocol.proofs.CallLaws.{prepare_is, is_prepare, check_is, is_check, decide_is, is_decide, abort_is, is_abort}
+use Rattle.check_protocol.proofs.CallLaws.{each_sound, prepare_is, is_prepare, check_is, is_check, decide_is, is_decide, abort_is, is_abort}
 use Rattle.check_protocol.proofs.KnownLaws.{known_is, is_known, aborted_is, is_aborted, lawful_sound, lawful_asked}
 use Rattle.check_protocol.proofs.RollLaws.{Sound, roll_is, is_roll, remove_is, is_remove}
 use Rattle.sdb_types.proofs.Public.{and_both as both, and_first as left, clash, decides as decide, either, or_second as or_right, some_is}
@@ -41,11 +41,11 @@ enabled_is : (past : List Labelled) (plans : List Plan) (e : Event) (r : Action)
 enabled_is past plans e action.Other h = h
 enabled_is past plans e (action.Begins t c) h = begin_is past e t.0 c h
 enabled_is past plans e (action.Takes t) h = take_is past plans e t.0 h
-enabled_is past plans e (action.Prepares t k w) h = prepare_is past plans e t.0 k w h
+enabled_is past plans e (action.Prepares t ks w) h = prepare_is past plans e t.0 ks w h
 enabled_is past plans e (action.Checks t i) h = check_is past plans e t.0 i h
 enabled_is past plans e (action.Decides t w) h = decide_is past plans e t.0 w h
 enabled_is past plans e (action.Aborts t moment w) h = abort_is past e t.0 moment w h
-enabled_is past plans e (action.Rolls t k d) h = roll_is past plans e t.0 k d h
+enabled_is past plans e (action.Rolls t ks d) h = roll_is past plans e t.0 ks d h
 enabled_is past plans e (action.Removes k t) h = remove_is past plans e k t.0 h
 enabled_is past plans e (action.Ends t) h = clash (sym h)
 enabled_is past plans e (action.Stops c) h = stop_is e c h
@@ -57,11 +57,11 @@ is_enabled_of : (past : List Labelled) (plans : List Plan) (e : Event) (r : Acti
 is_enabled_of past plans e action.Other l m = m
 is_enabled_of past plans e (action.Begins t c) l m = is_begin past e t.0 c m
 is_enabled_of past plans e (action.Takes t) l m = is_take past plans e t.0 m
-is_enabled_of past plans e (action.Prepares t k w) l m = is_prepare past plans e t.0 k w m (lawful_sound plans past t.0 l (sym (taken_is past t.0) ∙ m.within.accepted) k m.write m.at)
+is_enabled_of past plans e (action.Prepares t ks w) l m = is_prepare past plans e t.0 ks w m (each_sound (plan_in plans t.0) m.group (lawful_sound plans past t.0 l (sym (taken_is past t.0) ∙ m.within.accepted)) m.each)
 is_enabled_of past plans e (action.Checks t i) l m = is_check past plans e t.0 i m
 is_enabled_of past plans e (action.Decides t w) l m = is_decide past plans e t.0 w m
 is_enabled_of past plans e (action.Aborts t moment w) l m = is_abort past e t.0 moment w m
-is_enabled_of past plans e (action.Rolls t k d) l m = is_roll past plans e t.0 k d (sound past plans t.0 k l) m
+is_enabled_of past plans e (action.Rolls t ks d) l m = is_roll past plans e t.0 ks d (λ k. sound past plans t.0 k l) m
 is_enabled_of past plans e (action.Removes k t) l m = is_remove past e k t.0 m
 is_enabled_of past plans e (action.Ends t) l m = absurd m
 is_enabled_of past plans e (action.Stops c) l m = ap (λ x. stops_well x c) m ∙ is_number c c refl

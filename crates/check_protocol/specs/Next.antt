@@ -1,13 +1,12 @@
 -- What the law of the tests speaks of.
 use Rattle.std.specs.Prelude.{ℕ, List}
-use Rattle.check_protocol.specs.Types.{Decision, Event, Key}
+use Rattle.check_protocol.specs.Types.{Event}
 use Rattle.law_protocol.specs.Lawful as lawful
-use Rattle.law_protocol.specs.Lawful.{IsLawful, MayPrepare, MayRollBy}
+use Rattle.law_protocol.specs.Lawful.{IsLawful}
 use Rattle.law_protocol.specs.Plan as law
 use Rattle.check_protocol.specs.declared.plan.Plan.{Plan}
 use Rattle.check_protocol.specs.declared.labelled.Labelled.{Labelled}
-use Rattle.check_protocol.specs.declared.labelled.Ack.{Ack}
-use Rattle.check_protocol.specs.Values.{all_labelled, plan_in, ack_of}
+use Rattle.check_protocol.specs.Values.{all_labelled, plan_in}
 
 -- An event, with the events before it, newest first, and the plans.
 pub record NextEvent : Type 0 where
@@ -26,11 +25,3 @@ past_of n = all_labelled n.past
 -- the events before it obey the rules
 abbrev pub IsAfterLawful : NextEvent → Type 0
 IsAfterLawful n = IsLawful (plan_of n) (past_of n)
-
--- It may prepare a key of a transaction, with that outcome.
-abbrev pub MayPrepareKey : NextEvent → ℕ → Key → Ack → Type 0
-MayPrepareKey n t k w = MayPrepare (plan_of n) (past_of n) n.event t k (ack_of w)
-
--- It may roll a record of a transaction by that decision.
-abbrev pub MayRollKey : NextEvent → ℕ → Key → Decision → Type 0
-MayRollKey n t k d = MayRollBy (plan_of n) (past_of n) n.event t k d

@@ -44,6 +44,7 @@ with_reply (reply.Found o) found = with_found o found
 with_reply (reply.Rows rows) found = with_rows rows rows found
 with_reply reply.Applied found = found
 with_reply (reply.NotMet o) found = with_found o found
+with_reply (reply.NotAll place o) found = with_found o found
 with_reply reply.Fault found = found
 with_reply reply.NoMemory found = found
 
@@ -173,8 +174,12 @@ moments rs row = filter_map (row_moment row) rs
 
 ---- committed records that a read comes to
 
+-- this is what the record is rolled forward to at a moment
+abbrev pub is_forward_at : Record → ℤ → Record → Bool
+is_forward_at r m b = same_record b (forward_record r m)
+
 abbrev pub is_forward : Record → List ℤ → Record → Bool
-is_forward r ms b = list_any (λ m. same_record b (forward_record r m)) ms
+is_forward r ms b = list_any (λ m. is_forward_at r m b) ms
 
 abbrev pub is_itself : List Record → Key → Record → Bool
 is_itself rs k b = list_any (λ r. same_record r b) rs && (same_key b.key k && is_in Committed b.columns)

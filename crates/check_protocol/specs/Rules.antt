@@ -2,13 +2,13 @@
 use Rattle.std.specs.Prelude.{ℕ, ℤ, Bool, true, false, not, nat_lt, ◌^◌, ◌&&◌, ◌||◌, ◌==◌, if◌then◌else◌, List, [], ◌∷◌, ◌++◌, Option, Some, None, is_some, slice_get}
 use Rattle.std.specs.Option.{option_map_or}
 use Rattle.std.specs.List.{list_any, list_all, enumerate_from}
-use Rattle.check_protocol.specs.Types.{Answer, Condition, Decision, Event, Key, Read, Record, Reply, Request, Scan, TxId, Write}
+use Rattle.check_protocol.specs.Types.{Answer, Condition, Decision, Event, Key, Put, Read, Record, Reply, Request, Scan, TxId, Write}
 use Rattle.sdb_types.specs.declared.record.State.TheVariants.{Committed}
 use Rattle.sdb_types.specs.declared.record.Condition.TheVariants as condition
 use Rattle.sdb_types.specs.declared.record.Request.TheVariants as ask
 use Rattle.sdb_types.specs.declared.record.Reply.TheVariants as reply
 use Rattle.sdb_types.specs.Contents.{in_span, record_among}
-use Rattle.sdb_types.specs.Order.{same_key}
+use Rattle.sdb_types.specs.Order.{are_distinct, same_key}
 use Rattle.sdb_record.specs.declared.coordinator.Decision.TheVariants as decision
 use Rattle.sdb_record.specs.Coordinator.{coordinator_key_of, coordinator_row_of, is_coordinator_table}
 use Rattle.sdb_record.specs.Meta.{is_in, is_transactional, is_moment, is_committed}
@@ -29,9 +29,9 @@ use Rattle.check_protocol.specs.declared.labelled.Action.{Action}
 use Rattle.check_protocol.specs.declared.labelled.Action.TheVariants as action
 use Rattle.check_protocol.specs.declared.labelled.Labelled.{Labelled}
 use Rattle.check_protocol.specs.contracts.labelled.ActionPartialEq.TheImpl as action_eq
-use Rattle.check_protocol.specs.Values.{item_of, writes_in, items_in, moment_in, same_request, same_span}
+use Rattle.check_protocol.specs.Values.{item_of, writes_in, items_in, moment_in, same_put, same_request, same_span}
 use Rattle.check_protocol.specs.Started.{commit_started_in, begun_in, asked_in, acknowledged_in, checked_in, staged_in, deciding_in, risked_in, won_in, dead_in, met_in, stopped_in, owner_of, open_in}
-use Rattle.check_protocol.specs.Observed.{observed, is_prepared_by, is_before_image_of, has_no_before, is_forward, moments, observes_commit, observes_abort, observes_bad_row, is_settled, settles, settles_removed}
+use Rattle.check_protocol.specs.Observed.{observed, is_prepared_by, is_before_image_of, has_no_before, is_forward_at, moments, observes_commit, observes_abort, observes_bad_row, is_settled, settles, settles_removed}
 use Rattle.sdb_model.specs.Transactions.{is_done, is_committed_answer}
 use Rattle.sdb_model.specs.Tables.{is_data}
 
@@ -69,11 +69,34 @@ is_valid_item rs (item.SpanRead scan) = not (is_coordinator_table scan.span.tabl
 abbrev pub matches_reply : Ack → Reply → Bool
 matches_reply word.Yes reply.Applied = true
 matches_reply word.No (reply.NotMet found) = true
+matches_reply word.No (reply.NotAll place found) = true
 matches_reply word.OutOfMemory reply.NoMemory = true
 matches_reply word.NoAck (reply.Found found) = true
 matches_reply word.NoAck (reply.Rows rows) = true
 matches_reply word.NoAck reply.Fault = true
 matches_reply _ _ = false
+
+-- one put alone
+abbrev pub is_alone : List Put → Bool
+is_alone [] = false
+is_alone (p ∷ []) = true
+is_alone (p ∷ q ∷ ps) = false
+
+abbrev pub one_put : Record → Condition → List Put
+one_put r c = record { rec = r; condition = c } ∷ []
+
+-- the puts that a request makes: one alone is never put as a batch
+abbrev pub puts_asked : Request → Option (List Put)
+puts_asked (ask.Get key) = None
+puts_asked (ask.Scan span) = None
+puts_asked (ask.PutIf r c) = Some (one_put r c)
+puts_asked (ask.DeleteIf key c) = None
+puts_asked (ask.PutAll b) = if is_alone b then None else Some b
+
+-- at least one key, and each once
+abbrev pub are_some : List Key → Bool
+are_some [] = false
+are_some (k ∷ ks) = are_distinct (k ∷ ks)
 
 -- a client makes calls of the COMMIT of its transaction
 abbrev pub in_commit : List Labelled → ℕ → ℕ → Bool
@@ -97,18 +120,29 @@ abbrev pub prepared_by : ℕ → ℤ → Option Write → Option Record
 prepared_by t now None = None
 prepared_by t now (Some w) = if is_sound w then Some (prepared_record w (id t) now) else None
 
--- a request puts this record, where the base of the write is still there
-abbrev pub is_put : Request → Option Write → Option Record → Bool
-is_put q None o = false
-is_put q (Some w) None = false
-is_put q (Some w) (Some r) = same_request q (ask.PutIf r (condition_of (version_of w.base)))
+-- a put is of this record, where the base of the write is still there
+abbrev pub is_put : Put → Option Write → Option Record → Bool
+is_put p None o = false
+is_put p (Some w) None = false
+is_put p (Some w) (Some r) = same_put p (record { rec = r; condition = condition_of (version_of w.base) })
 
-abbrev pub puts_write : ℕ → ℤ → Request → Option Write → Bool
-puts_write t now q o = is_put q o (prepared_by t now o)
+-- a put prepares a write
+abbrev pub puts_write : ℕ → ℤ → Option Write → Put → Bool
+puts_write t now o p = is_put p o (prepared_by t now o)
 
-abbrev pub prepares_well : List Labelled → List Plan → Event → ℕ → Key → Ack → Bool
-prepares_well past plans (event.Call client store q how r answered) t k w = in_commit past client t && (matches_reply w r && ((not (staged_in past t) && not (asked_in past t k)) && puts_write t (moment_in plans t) q (write_among (writes_in plans t) k)))
-prepares_well past plans _ t k w = false
+-- puts prepare the writes of keys, one after another
+abbrev pub put_writes : ℕ → ℤ → List Write → List Key → List Put → Bool
+put_writes t now ws [] [] = true
+put_writes t now ws (k ∷ ks) (p ∷ ps) = puts_write t now (write_among ws k) p && put_writes t now ws ks ps
+put_writes t now ws _ _ = false
+
+-- no prepare was asked of any of the keys
+abbrev pub are_new : List Labelled → ℕ → List Key → Bool
+are_new past t ks = list_all (λ k. not (asked_in past t k)) ks
+
+abbrev pub prepares_well : List Labelled → List Plan → Event → ℕ → List Key → Ack → Bool
+prepares_well past plans (event.Call client store q how r answered) t ks w = in_commit past client t && (matches_reply w r && ((not (staged_in past t) && are_new past t ks) && (are_some ks && option_map_or (put_writes t (moment_in plans t) (writes_in plans t) ks) (puts_asked q) false)))
+prepares_well past plans _ t ks w = false
 
 -- a key is as it was read, or is written
 abbrev pub is_as_read : List Write → Scan → List Record → Key → Bool
@@ -174,19 +208,33 @@ has_own_moment rs past t = won_in past t || (commit_started_in past t && observe
 abbrev pub known_moments : List Record → List Labelled → List Plan → ℕ → List ℤ
 known_moments rs past plans t = with_own (has_own_moment rs past t) (moment_in plans t) (moments rs (coordinator_key_of (id t)))
 
-abbrev pub any_prepared_forward : List Record → List ℤ → ℕ → Key → Record → Bool
-any_prepared_forward rs ms t k target = list_any (λ r. is_prepared_by t k r && is_forward r ms target) rs
+abbrev pub any_prepared_forward : List Record → ℤ → ℕ → Key → Record → Bool
+any_prepared_forward rs m t k target = list_any (λ r. is_prepared_by t k r && is_forward_at r m target) rs
 
-abbrev pub is_rolled_forward : List Record → Option Record → List ℤ → ℕ → Key → Record → Bool
-is_rolled_forward rs o ms t k target = option_map_or (λ r. is_forward r ms target) o false || any_prepared_forward rs ms t k target
+abbrev pub is_rolled_forward : List Record → Option Record → ℤ → ℕ → Key → Record → Bool
+is_rolled_forward rs o m t k target = option_map_or (λ r. is_forward_at r m target) o false || any_prepared_forward rs m t k target
 
 abbrev pub rolls_open : Condition → ℕ → Bool
 rolls_open condition.Absent t = false
 rolls_open (condition.Version i s) t = i.0 == t && not (is_committed s)
 
-abbrev pub rolls_forward : List Record → List Labelled → List Plan → Event → ℕ → Key → Bool
-rolls_forward rs past plans (event.Call client store (ask.PutIf target c) how r answered) t k = rolls_open c t && (is_data k && is_rolled_forward rs (own past plans t k) (known_moments rs past plans t) t k target)
-rolls_forward rs past plans _ t k = false
+-- a put rolls forward, to a moment, what a transaction prepared at a key
+abbrev pub rolls_at : List Record → List Labelled → List Plan → ℕ → ℤ → Key → Put → Bool
+rolls_at rs past plans t m k p = rolls_open p.condition t && (is_data k && is_rolled_forward rs (own past plans t k) m t k p.rec)
+
+-- puts roll forward what it prepared at keys, one after another
+abbrev pub roll_each : List Record → List Labelled → List Plan → ℕ → ℤ → List Key → List Put → Bool
+roll_each rs past plans t m [] [] = true
+roll_each rs past plans t m (k ∷ ks) (p ∷ ps) = rolls_at rs past plans t m k p && roll_each rs past plans t m ks ps
+roll_each rs past plans t m _ _ = false
+
+-- to one moment at which it is known to be committed
+abbrev pub roll_together : List Record → List Labelled → List Plan → ℕ → List Key → List Put → Bool
+roll_together rs past plans t ks ps = list_any (λ m. roll_each rs past plans t m ks ps) (known_moments rs past plans t)
+
+abbrev pub rolls_forward : List Record → List Labelled → List Plan → Event → ℕ → List Key → Bool
+rolls_forward rs past plans (event.Call client store q how r answered) t ks = are_some ks && option_map_or (roll_together rs past plans t ks) (puts_asked q) false
+rolls_forward rs past plans _ t ks = false
 
 -- a record keeps this one as its before image, or keeps none
 abbrev pub has_before_or_none : Option Record → Record → Bool
@@ -205,6 +253,7 @@ is_rolled_back rs o t k = is_back rs o t k None
 abbrev pub undoes : List Record → Option Record → Request → ℕ → Key → Bool
 undoes rs o (ask.PutIf base c) t k = rolls_open c t && is_put_back rs o t k base
 undoes rs o (ask.DeleteIf key c) t k = rolls_open c t && (same_key key k && is_rolled_back rs o t k)
+undoes rs o (ask.PutAll batch) t k = false
 undoes rs o (ask.Get key) t k = false
 undoes rs o (ask.Scan span) t k = false
 
@@ -212,9 +261,16 @@ abbrev pub rolls_back : List Record → List Labelled → List Plan → Event �
 rolls_back rs past plans (event.Call client store q how r answered) t k = is_data k && (is_known_aborted rs past t && undoes rs (own past plans t k) q t k)
 rolls_back rs past plans _ t k = false
 
-abbrev pub rolls_well : List Record → List Labelled → List Plan → Event → ℕ → Key → Decision → Bool
-rolls_well rs past plans e t k decision.Committed = rolls_forward rs past plans e t k
-rolls_well rs past plans e t k decision.Aborted = rolls_back rs past plans e t k
+-- of a list of one key
+abbrev pub of_one_key : List Key → (Key → Bool) → Bool
+of_one_key [] f = false
+of_one_key (k ∷ []) f = f k
+of_one_key (k ∷ l ∷ ks) f = false
+
+-- one request rolls any number of records forward, and one back
+abbrev pub rolls_well : List Record → List Labelled → List Plan → Event → ℕ → List Key → Decision → Bool
+rolls_well rs past plans e t ks decision.Committed = rolls_forward rs past plans e t ks
+rolls_well rs past plans e t ks decision.Aborted = of_one_key ks (rolls_back rs past plans e t)
 
 -- a transaction is not open, or its client has stopped
 unfoldable pub is_left : List Labelled → ℕ → Bool
@@ -245,11 +301,11 @@ abbrev pub acts_well : List Record → List Labelled → List Plan → Event →
 acts_well rs past plans e action.Other = is_quiet e
 acts_well rs past plans e (action.Begins t c) = begins_well past e t.0 c
 acts_well rs past plans e (action.Takes t) = starts_well rs past plans e t.0
-acts_well rs past plans e (action.Prepares t k w) = prepares_well past plans e t.0 k w
+acts_well rs past plans e (action.Prepares t ks w) = prepares_well past plans e t.0 ks w
 acts_well rs past plans e (action.Checks t i) = checks_well past plans e t.0 i
 acts_well rs past plans e (action.Decides t w) = decides_well past plans e t.0 w
 acts_well rs past plans e (action.Aborts t moment w) = aborts_well e t.0 moment w
-acts_well rs past plans e (action.Rolls t k d) = rolls_well rs past plans e t.0 k d
+acts_well rs past plans e (action.Rolls t ks d) = rolls_well rs past plans e t.0 ks d
 acts_well rs past plans e (action.Removes k t) = removes_well rs past e k t.0
 acts_well rs past plans e (action.Ends t) = false
 acts_well rs past plans e (action.Stops c) = stops_well e c

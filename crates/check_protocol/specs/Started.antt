@@ -3,7 +3,7 @@ use Rattle.std.specs.Prelude.{ℕ, Bool, true, false, not, ◌&&◌, ◌||◌, �
 use Rattle.std.specs.Option.{option_map_or}
 use Rattle.std.specs.List.{list_any}
 use Rattle.sdb_types.specs.declared.key.Key.{Key}
-use Rattle.sdb_types.specs.Order.{same_key}
+use Rattle.sdb_types.specs.Order.{has_key}
 use Rattle.law_protocol.specs.History.{is_yes, is_met, is_out_of_memory_ack}
 use Rattle.check_protocol.specs.declared.labelled.Action.{Action}
 use Rattle.check_protocol.specs.declared.labelled.Action.TheVariants as action
@@ -27,11 +27,11 @@ is_take_of u (action.Takes t) = u == t.0
 is_take_of u _ = false
 
 abbrev pub is_prepare_of : ℕ → Key → Action → Bool
-is_prepare_of u q (action.Prepares t k w) = u == t.0 && same_key q k
+is_prepare_of u q (action.Prepares t ks w) = u == t.0 && has_key ks q
 is_prepare_of u q _ = false
 
 abbrev pub is_applied : Action → Bool
-is_applied (action.Prepares t k w) = is_yes (ack_of w)
+is_applied (action.Prepares t ks w) = is_yes (ack_of w)
 is_applied _ = false
 
 abbrev pub is_check_of : ℕ → ℕ → Action → Bool

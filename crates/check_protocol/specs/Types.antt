@@ -10,6 +10,7 @@ pub use Rattle.sdb_record.specs.declared.write.Write.{Write}
 pub use Rattle.sdb_types.specs.declared.key.Key.{Key}
 pub use Rattle.sdb_types.specs.declared.pair.Pair.{Pair}
 pub use Rattle.sdb_types.specs.declared.record.Condition.{Condition}
+pub use Rattle.sdb_types.specs.declared.record.Put.{Put}
 pub use Rattle.sdb_types.specs.declared.record.Record.{Record}
 pub use Rattle.sdb_types.specs.declared.record.Reply.{Reply}
 pub use Rattle.sdb_types.specs.declared.record.Request.{Request}

@@ -1,7 +1,8 @@
 -- What the values mean in the law.
-use Rattle.std.specs.Prelude.{ℕ, ℤ, pos, Bool, ◌==◌, List, [], ◌∷◌, map, Option, find}
+use Rattle.std.specs.Prelude.{ℕ, ℤ, pos, Bool, ◌==◌, List, [], map, Option, find}
 use Rattle.std.specs.Option.{option_map, option_map_or}
-use Rattle.check_protocol.specs.Types.{Record, Request, Span, Write}
+use Rattle.check_protocol.specs.Types.{Put, Record, Request, Span, Write}
+use Rattle.sdb_types.specs.contracts.record.PutPartialEq.TheImpl as put_eq
 use Rattle.sdb_types.specs.contracts.record.RecordPartialEq.TheImpl as record_eq
 use Rattle.sdb_types.specs.contracts.record.SpanPartialEq.TheImpl as span_eq
 use Rattle.sdb_types.specs.contracts.record.RequestPartialEq.TheImpl as request_eq
@@ -28,11 +29,11 @@ abbrev pub action_of : Action → part.Action
 action_of action.Other = part.Other
 action_of (action.Begins t c) = part.Begins t.0 c
 action_of (action.Takes t) = part.Takes t.0
-action_of (action.Prepares t k w) = part.Prepares t.0 (k ∷ []) (ack_of w)
+action_of (action.Prepares t ks w) = part.Prepares t.0 ks (ack_of w)
 action_of (action.Checks t i) = part.Checks t.0 i
 action_of (action.Decides t w) = part.Decides t.0 (ack_of w)
 action_of (action.Aborts t moment w) = part.Aborts t.0 moment (ack_of w)
-action_of (action.Rolls t k d) = part.Rolls t.0 (k ∷ []) d
+action_of (action.Rolls t ks d) = part.Rolls t.0 ks d
 action_of (action.Removes k t) = part.Removes k t.0
 action_of (action.Ends t) = part.Ends t.0
 action_of (action.Stops c) = part.Stops c
@@ -69,6 +70,9 @@ plan_in plans t = record { writes = writes_in plans t; read_set = map item_of (i
 
 unfoldable pub same_record : Record → Record → Bool
 same_record a b = (record_eq.ghosts).eq a b
+
+unfoldable pub same_put : Put → Put → Bool
+same_put a b = (put_eq.ghosts).eq a b
 
 unfoldable pub same_request : Request → Request → Bool
 same_request a b = (request_eq.ghosts).eq a b

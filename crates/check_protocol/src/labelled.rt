@@ -2,15 +2,14 @@
 ghost use Rattle.std.specs.Prelude.{◌≡◌, find};
 ghost use Rattle.std.specs.Option.{option_copied};
 ghost use Rattle.std.specs.List.{list_any};
-ghost use Rattle.sdb_types.specs.Order.{same_key};
 ghost use Rattle.law_protocol.specs.History.{is_yes, is_met, is_out_of_memory_ack};
 ghost use Rattle.check_protocol.specs.Values.{ack_of};
 ghost use Rattle.check_protocol.specs.Started.{is_begin_of, is_take_of, is_prepare_of, is_applied, is_check_of, is_stage_of, is_decision, is_risk_of, is_win_of, is_death_of, is_meeting_of, is_stop_of, is_end_of, ends_with, owner_in, touches, opens, has_sign as has_sign_lem, commit_started_in, begun_in, asked_in, acknowledged_in, checked_in, staged_in, deciding_in, risked_in, won_in, dead_in, met_in, stopped_in, owner_of, open_in};
 
-use crate::same::is_same_key;
+use crate::keys::has_key;
 use sdb_model::Event;
 use sdb_record::Decision;
-use sdb_types::{Key, TxId};
+use sdb_types::{Key, Seq, TxId};
 
 /// What its client was answered to a put: that it was applied, that its condition failed, nothing, or out of memory.
 #[derive(Clone, Copy, Debug, PartialEq, Eq)]
@@ -21,6 +20,9 @@ pub enum Ack {
     OutOfMemory,
 }
 
+/// Keys of the records of one request.
+pub type Keys = Seq<Key>;
+
 /// The action of an event in the protocol.
 #[derive(Debug, PartialEq, Eq)]
 pub enum Action {
@@ -30,16 +32,16 @@ pub enum Action {
     Begins(TxId, u32),
     /// Its COMMIT is accepted.
     Takes(TxId),
-    /// Its prepare of a key.
-    Prepares(TxId, Key, Ack),
+    /// Its prepare of keys, by one request.
+    Prepares(TxId, Keys, Ack),
     /// Its check of a read of the read set, which found all as read. Items are counted from 0.
     Checks(TxId, usize),
     /// The put of its row COMMITTED.
     Decides(TxId, Ack),
     /// A put of its row ABORTED with this moment, by anybody.
     Aborts(TxId, i64, Ack),
-    /// A roll of what it prepared at a key, by anybody.
-    Rolls(TxId, Key, Decision),
+    /// A roll of what it prepared at keys, by anybody, by one request.
+    Rolls(TxId, Keys, Decision),
     /// The removal of the tombstone that it left at a key.
     Removes(Key, TxId),
     /// An answer ends it.
@@ -126,7 +128,7 @@ fn prepares(action: &Action, id: TxId, key: &Key) -> bool
     ensures { result ≡ is_prepare_of id.0 key.now action.now }
 {
     match action {
-        Action::Prepares(other, at, _) => id.0 == other.0 && is_same_key(key, at),
+        Action::Prepares(other, keys, _) => id.0 == other.0 && has_key(keys.as_slice(), key),
         _ => false,
     }
 }

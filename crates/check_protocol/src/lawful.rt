@@ -29,14 +29,23 @@ fn is_enabled(
         Action::Other => Ok(is_quiet(event)),
         Action::Begins(id, client) => may_begin(alloc, past, event, *id, *client),
         Action::Takes(id) => may_take(alloc, found_in, past, plans, event, *id),
-        Action::Prepares(id, key, word) => {
-            may_prepare(alloc, past, plans, event, *id, key, *word)
+        Action::Prepares(id, keys, word) => {
+            may_prepare(alloc, past, plans, event, *id, keys.as_slice(), *word)
         }
         Action::Checks(id, i) => Ok(may_check(past, plans, event, *id, *i)),
         Action::Decides(id, word) => may_decide(alloc, past, plans, event, *id, *word),
         Action::Aborts(id, moment, word) => may_abort(alloc, event, *id, *moment, *word),
-        Action::Rolls(id, key, decision) => {
-            may_roll(alloc, found_in, past, plans, event, *id, key, *decision)
+        Action::Rolls(id, keys, decision) => {
+            may_roll(
+                alloc,
+                found_in,
+                past,
+                plans,
+                event,
+                *id,
+                keys.as_slice(),
+                *decision,
+            )
         }
         Action::Removes(key, id) => may_remove(alloc, found_in, past, event, key, *id),
         Action::Ends(_) => Ok(false),

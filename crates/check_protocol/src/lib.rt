@@ -3,11 +3,13 @@
 #![tactic(auto)]
 
 mod commit;
+mod keys;
 mod labelled;
 mod late;
 mod lawful;
 pub mod laws;
 mod plan;
+mod puts;
 mod records;
 mod rolls;
 mod rules;
@@ -16,9 +18,9 @@ pub mod tests;
 
 pub use commit::prepared_if_sound;
 pub use labelled::{
-    Ack, Action, Labelled, is_acknowledged, is_asked, is_begun, is_checked, is_commit_started,
-    is_dead, is_deciding, is_met_once, is_open, is_past_prepares, is_risked, is_stopped, is_won,
-    owner,
+    Ack, Action, Keys, Labelled, is_acknowledged, is_asked, is_begun, is_checked,
+    is_commit_started, is_dead, is_deciding, is_met_once, is_open, is_past_prepares, is_risked,
+    is_stopped, is_won, owner,
 };
 pub use late::was_delayed;
 pub use lawful::is_lawful;
@@ -30,4 +32,6 @@ pub use records::{
     is_prepared_by, is_settled, moments, observed, observes_abort, observes_bad_row,
     observes_commit, record_among, settles, settles_removed, writer,
 };
-pub use same::{is_same_action, is_same_key, is_same_record, is_same_request, is_same_span};
+pub use same::{
+    is_same_action, is_same_key, is_same_put, is_same_record, is_same_request, is_same_span,
+};

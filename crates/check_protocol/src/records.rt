@@ -8,9 +8,7 @@ ghost use Rattle.sdb_record.specs.Ids.{id_of_text};
 ghost use Rattle.sdb_record.specs.Meta.{id_in, id_in_value, is_in};
 ghost use Rattle.sdb_record.specs.Names.{base_name, is_before, same_name};
 ghost use Rattle.sdb_record.specs.Parts.{is_before_pair};
-ghost use Rattle.sdb_record.specs.Rolls.{forward_record};
-ghost use Rattle.check_protocol.specs.Values.{same_record};
-ghost use Rattle.check_protocol.specs.Observed.{is_first as is_first_lem, with_rows, with_found, with_reply, with_event, observed as observed_lem, writer_is as writer_is_lem, before_writer as before_writer_lem, has_tombstone_before as has_tombstone_before_lem, before_matches as before_matches_lem, is_before_image_of as is_before_image_of_lem, has_no_before as has_no_before_lem, is_prepared_at as is_prepared_at_lem, is_prepared_by as is_prepared_by_lem, decided as decided_lem, commits as commits_lem, aborts as aborts_lem, commit_moment as commit_moment_lem, row_moment as row_moment_lem, observes_commit as observes_commit_lem, observes_abort as observes_abort_lem, observes_bad_row as observes_bad_row_lem, moments as moments_lem, is_forward as is_forward_lem, is_itself as is_itself_lem, is_back_to as is_back_to_lem, is_committed_by as is_committed_by_lem, has_before_by as has_before_by_lem, is_removed_by as is_removed_by_lem, has_removed_before_by as has_removed_before_by_lem, is_prepared_removed_by as is_prepared_removed_by_lem, has_trace as has_trace_lem, forward_from as forward_from_lem, is_settled as is_settled_lem, settles as settles_lem, settles_removed as settles_removed_lem};
+ghost use Rattle.check_protocol.specs.Observed.{is_first as is_first_lem, with_rows, with_found, with_reply, with_event, observed as observed_lem, writer_is as writer_is_lem, before_writer as before_writer_lem, has_tombstone_before as has_tombstone_before_lem, before_matches as before_matches_lem, is_before_image_of as is_before_image_of_lem, has_no_before as has_no_before_lem, is_prepared_at as is_prepared_at_lem, is_prepared_by as is_prepared_by_lem, decided as decided_lem, commits as commits_lem, aborts as aborts_lem, commit_moment as commit_moment_lem, row_moment as row_moment_lem, observes_commit as observes_commit_lem, observes_abort as observes_abort_lem, observes_bad_row as observes_bad_row_lem, moments as moments_lem, is_forward as is_forward_lem, is_forward_at as is_forward_at_lem, is_itself as is_itself_lem, is_back_to as is_back_to_lem, is_committed_by as is_committed_by_lem, has_before_by as has_before_by_lem, is_removed_by as is_removed_by_lem, has_removed_before_by as has_removed_before_by_lem, is_prepared_removed_by as is_prepared_removed_by_lem, has_trace as has_trace_lem, forward_from as forward_from_lem, is_settled as is_settled_lem, settles as settles_lem, settles_removed as settles_removed_lem};
 
 use crate::labelled::Labelled;
 use crate::same::{is_same_key, is_same_record};
@@ -75,6 +73,7 @@ fn add_reply(found: &mut Records, reply: &Reply) -> Result<(), NoMemory>
     match reply {
         Reply::Found(rec) => add_found(found, rec),
         Reply::NotMet(rec) => add_found(found, rec),
+        Reply::NotAll(_, rec) => add_found(found, rec),
         Reply::Rows(rows) => add_rows(found, rows.as_slice()),
         Reply::Applied => Ok(()),
         Reply::Fault => Ok(()),
@@ -417,13 +416,14 @@ pub fn moments(alloc: Global, found_in: &[Record], row: &Key) -> Result<Seq<i64>
     Ok(found)
 }
 
-fn is_forward_at(
+/// Whether this is what the record is rolled forward to at a moment.
+pub fn is_forward_at(
     alloc: Global,
     rec: &Record,
     moment: i64,
     target: &Record,
 ) -> Result<bool, NoMemory>
-    ensures { IfOk result (λ found. found ≡ same_record target.now (forward_record rec.now moment)) }
+    ensures { IfOk result (λ found. found ≡ is_forward_at_lem rec.now moment target.now) }
 {
     let forward = rolled_forward(alloc, rec, moment)?;
     Ok(is_same_record(target, &forward))

@@ -4,20 +4,23 @@ ghost use Rattle.std.specs.Option.{option_copied, option_map_or};
 ghost use Rattle.std.specs.List.{list_any};
 ghost use Rattle.sdb_record.specs.Meta.{is_committed as is_committed_lem};
 ghost use Rattle.law_protocol.specs.Lawful.{answer_of as answer_of_lem, is_denial as is_denial_lem};
-ghost use Rattle.check_protocol.specs.Observed.{is_prepared_by as is_prepared_by_lem, is_forward as is_forward_lem};
-ghost use Rattle.check_protocol.specs.Rules.{is_known_committed as is_known_committed_lem, is_known_aborted as is_known_aborted_lem, own as own_lem, with_own, has_own_moment as has_own_moment_lem, known_moments as known_moments_lem, any_prepared_forward as any_prepared_forward_lem, is_rolled_forward as is_rolled_forward_lem, rolls_open as rolls_open_lem, rolls_forward, has_before_or_none as has_before_or_none_lem, is_back as is_back_lem, undoes as undoes_lem, rolls_back, rolls_well, removes_version as removes_version_lem, removes_well, denies as denies_lem, may_answer as may_answer_lem, may_deny as may_deny_lem, answers_well};
+ghost use Rattle.check_protocol.specs.Observed.{is_prepared_by as is_prepared_by_lem, is_forward_at as is_forward_at_lem};
+ghost use Rattle.check_protocol.specs.Rules.{is_known_committed as is_known_committed_lem, is_known_aborted as is_known_aborted_lem, own as own_lem, with_own, has_own_moment as has_own_moment_lem, known_moments as known_moments_lem, any_prepared_forward as any_prepared_forward_lem, rolls_open as rolls_open_lem, rolls_at as rolls_at_lem, roll_each as roll_each_lem, roll_together as roll_together_lem, rolls_forward, has_before_or_none as has_before_or_none_lem, is_back as is_back_lem, undoes as undoes_lem, rolls_back, rolls_well, removes_version as removes_version_lem, removes_well, denies as denies_lem, may_answer as may_answer_lem, may_deny as may_deny_lem, answers_well};
 ghost use Rattle.sdb_model.specs.Transactions.{is_committed_answer as is_committed_answer_lem};
 
 use crate::commit::{is_data, prepared_by};
+use crate::keys::are_some;
+use crate::puts::puts_asked;
+use crate::records::is_forward_at;
 use crate::rules::are_shut;
 use crate::{
     Labelled, Plan, has_no_before, is_asked, is_before_image_of, is_commit_started, is_dead,
-    is_forward, is_met_once, is_prepared_by, is_risked, is_same_key, is_won, moment_of, moments,
+    is_met_once, is_prepared_by, is_risked, is_same_key, is_won, moment_of, moments,
     observes_abort, observes_bad_row, observes_commit, settles_removed, write_of, writes_of,
 };
 use sdb_model::{Answer, Event};
 use sdb_record::{Decision, coordinator_key};
-use sdb_types::{Condition, Key, NoMemory, Record, Request, Seq, State, TxId};
+use sdb_types::{Condition, Key, NoMemory, Put, Record, Request, Seq, State, TxId};
 use std::alloc::Global;
 
 /// Whether a transaction is known to be committed: it won, or its row was observed.
@@ -115,15 +118,15 @@ fn known_moments(
 fn any_held_forward(
     alloc: Global,
     observed: &[Record],
-    moments: &[i64],
+    moment: i64,
     id: TxId,
     key: &Key,
     target: &Record,
 ) -> Result<bool, NoMemory>
-    ensures { IfOk result (λ found. found ≡ any_prepared_forward_lem observed.now moments.now id.0 key.now target.now) }
+    ensures { IfOk result (λ found. found ≡ any_prepared_forward_lem observed.now moment id.0 key.now target.now) }
 {
     for rec in observed {
-        if is_prepared_by(rec, key, id) && is_forward(alloc, rec, moments, target)? {
+        if is_prepared_by(rec, key, id) && is_forward_at(alloc, rec, moment, target)? {
             return Ok(true);
         }
     }
@@ -133,13 +136,13 @@ fn any_held_forward(
 fn is_own_forward(
     alloc: Global,
     own: &Option<Record>,
-    moments: &[i64],
+    moment: i64,
     target: &Record,
 ) -> Result<bool, NoMemory>
-    ensures { IfOk result (λ found. found ≡ option_map_or (λ r. is_forward_lem r moments.now target.now) own.now false) }
+    ensures { IfOk result (λ found. found ≡ option_map_or (λ r. is_forward_at_lem r moment target.now) own.now false) }
 {
     match own {
-        Some(rec) => is_forward(alloc, rec, moments, target),
+        Some(rec) => is_forward_at(alloc, rec, moment, target),
         None => Ok(false),
     }
 }
@@ -159,6 +162,100 @@ fn rolls_open(condition: Condition, id: TxId) -> bool
     }
 }
 
+// Whether a put rolls forward, to a moment, what the transaction prepared at a key.
+fn rolls_at(
+    alloc: Global,
+    observed: &[Record],
+    past: &[Labelled],
+    plans: &[Plan],
+    id: TxId,
+    moment: i64,
+    key: &Key,
+    put: &Put,
+) -> Result<bool, NoMemory>
+    ensures { IfOk result (λ well. well ≡ rolls_at_lem observed.now past.now plans.now id.0 moment key.now put.now) }
+{
+    if !rolls_open(put.condition, id) || !is_data(key) {
+        return Ok(false);
+    }
+    let own = own(alloc, past, plans, id, key)?;
+    if is_own_forward(alloc, &own, moment, &put.rec)? {
+        return Ok(true);
+    }
+    any_held_forward(alloc, observed, moment, id, key, &put.rec)
+}
+
+// Whether the puts roll forward what it prepared at the keys, one after another.
+fn roll_each(
+    alloc: Global,
+    observed: &[Record],
+    past: &[Labelled],
+    plans: &[Plan],
+    id: TxId,
+    moment: i64,
+    keys: &[Key],
+    puts: &[Put],
+) -> Result<bool, NoMemory>
+    ensures { IfOk result (λ well. well ≡ roll_each_lem observed.now past.now plans.now id.0 moment keys.now puts.now) }
+{
+    match (keys.split_first(), puts.split_first()) {
+        (None, None) => Ok(true),
+        (Some((key, others)), Some((put, more))) => {
+            if !rolls_at(alloc, observed, past, plans, id, moment, key, put)? {
+                return Ok(false);
+            }
+            roll_each(alloc, observed, past, plans, id, moment, others, more)
+        }
+        (None, Some(_)) | (Some(_), None) => Ok(false),
+    }
+}
+
+// Whether they do so to one of these moments.
+fn roll_at_any(
+    alloc: Global,
+    observed: &[Record],
+    past: &[Labelled],
+    plans: &[Plan],
+    id: TxId,
+    moments: &[i64],
+    keys: &[Key],
+    puts: &[Put],
+) -> Result<bool, NoMemory>
+    ensures { IfOk result (λ well. well ≡ list_any (λ m. roll_each_lem observed.now past.now plans.now id.0 m keys.now puts.now) moments.now) }
+{
+    for moment in moments {
+        if roll_each(alloc, observed, past, plans, id, *moment, keys, puts)? {
+            return Ok(true);
+        }
+    }
+    Ok(false)
+}
+
+// Whether they do so to one moment at which it is known to be committed.
+fn roll_together(
+    alloc: Global,
+    observed: &[Record],
+    past: &[Labelled],
+    plans: &[Plan],
+    id: TxId,
+    keys: &[Key],
+    puts: &[Put],
+) -> Result<bool, NoMemory>
+    ensures { IfOk result (λ well. well ≡ roll_together_lem observed.now past.now plans.now id.0 keys.now puts.now) }
+{
+    let moments = known_moments(alloc, observed, past, plans, id)?;
+    roll_at_any(
+        alloc,
+        observed,
+        past,
+        plans,
+        id,
+        moments.as_slice(),
+        keys,
+        puts,
+    )
+}
+
 /// A roll forward of what is known to be committed, by anybody.
 pub fn may_roll_forward(
     alloc: Global,
@@ -167,21 +264,21 @@ pub fn may_roll_forward(
     plans: &[Plan],
     event: &Event,
     id: TxId,
-    key: &Key,
+    keys: &[Key],
 ) -> Result<bool, NoMemory>
-    ensures { IfOk result (λ well. well ≡ rolls_forward observed.now past.now plans.now event.now id.0 key.now) }
+    ensures { IfOk result (λ well. well ≡ rolls_forward observed.now past.now plans.now event.now id.0 keys.now) }
 {
     match event {
-        Event::Call(_, _, Request::PutIf(target, condition), _, _, _) => {
-            if !rolls_open(*condition, id) || !is_data(key) {
+        Event::Call(_, _, request, _, _, _) => {
+            if !are_some(keys) {
                 return Ok(false);
             }
-            let own = own(alloc, past, plans, id, key)?;
-            let moments = known_moments(alloc, observed, past, plans, id)?;
-            if is_own_forward(alloc, &own, moments.as_slice(), target)? {
-                return Ok(true);
+            match puts_asked(alloc, request)? {
+                None => Ok(false),
+                Some(puts) => {
+                    roll_together(alloc, observed, past, plans, id, keys, puts.as_slice())
+                }
             }
-            any_held_forward(alloc, observed, moments.as_slice(), id, key, target)
         }
         _ => Ok(false),
     }
@@ -241,6 +338,7 @@ fn undoes(observed: &[Record], own: &Option<Record>, request: &Request, id: TxId
             rolls_open(*condition, id)
                 && (is_same_key(at, key) && is_put_back(observed, own, id, key, None))
         }
+        Request::PutAll(_) => false,
         Request::Get(_) => false,
         Request::Scan(_) => false,
     }
@@ -270,7 +368,7 @@ pub fn may_roll_back(
     }
 }
 
-/// A roll by a decision.
+/// A roll by a decision: one request rolls any number of records forward, and one back.
 pub fn may_roll(
     alloc: Global,
     observed: &[Record],
@@ -278,14 +376,18 @@ pub fn may_roll(
     plans: &[Plan],
     event: &Event,
     id: TxId,
-    key: &Key,
+    keys: &[Key],
     decision: Decision,
 ) -> Result<bool, NoMemory>
-    ensures { IfOk result (λ well. well ≡ rolls_well observed.now past.now plans.now event.now id.0 key.now decision) }
+    ensures { IfOk result (λ well. well ≡ rolls_well observed.now past.now plans.now event.now id.0 keys.now decision) }
 {
     match decision {
-        Decision::Committed => may_roll_forward(alloc, observed, past, plans, event, id, key),
-        Decision::Aborted => may_roll_back(alloc, observed, past, plans, event, id, key),
+        Decision::Committed => may_roll_forward(alloc, observed, past, plans, event, id, keys),
+        Decision::Aborted => match keys {
+            [] => Ok(false),
+            [key] => may_roll_back(alloc, observed, past, plans, event, id, key),
+            [_, _, ..] => Ok(false),
+        },
     }
 }
 

@@ -12,14 +12,16 @@ ghost use Rattle.sdb_model.specs.Sql.{reads_word as reads_word_lem};
 ghost use Rattle.law_protocol.specs.Lawful.{is_quiet as is_quiet_lem};
 ghost use Rattle.check_protocol.specs.Values.{item_of, same_request};
 ghost use Rattle.check_protocol.specs.Started.{acknowledged_in, open_in, stopped_in, owner_of};
-ghost use Rattle.check_protocol.specs.Rules.{matches_reply as matches_reply_lem, in_commit as in_commit_lem, begins_well, commits_well as commits_well_lem, starts_well, is_put as is_put_lem, puts_write as puts_write_lem, prepares_well, is_as_read as is_as_read_lem, are_as_read as are_as_read_lem, finds_read as finds_read_lem, checks_well, same_read as same_read_lem, agrees_at as agrees_at_lem, agrees as agrees_lem, is_item_checked as is_item_checked_lem, is_ready as is_ready_lem, decides_well, aborts_well, stops_well, are_shut as are_shut_lem, is_shut as is_shut_lem, is_left as is_left_lem};
+ghost use Rattle.check_protocol.specs.Rules.{matches_reply as matches_reply_lem, in_commit as in_commit_lem, begins_well, commits_well as commits_well_lem, starts_well, is_put as is_put_lem, puts_write as puts_write_lem, put_writes as put_writes_lem, are_new as are_new_lem, prepares_well, is_as_read as is_as_read_lem, are_as_read as are_as_read_lem, finds_read as finds_read_lem, checks_well, same_read as same_read_lem, agrees_at as agrees_at_lem, agrees as agrees_lem, is_item_checked as is_item_checked_lem, is_ready as is_ready_lem, decides_well, aborts_well, stops_well, are_shut as are_shut_lem, is_shut as is_shut_lem, is_left as is_left_lem};
 
 use crate::commit::{are_valid_items, are_valid_writes, prepared_by};
+use crate::keys::are_some;
+use crate::puts::puts_asked;
 use crate::{
     Ack, Action, Labelled, Plan, ReadItem, is_acknowledged, is_asked, is_begun, is_checked,
-    is_commit_started, is_deciding, is_open, is_past_prepares, is_same_key, is_same_request,
-    is_same_span, is_stopped, items_of, moment_of, owner, record_among, version_among,
-    version_read, write_of, writes_of,
+    is_commit_started, is_deciding, is_open, is_past_prepares, is_same_key, is_same_put,
+    is_same_request, is_same_span, is_stopped, items_of, moment_of, owner, record_among,
+    version_among, version_read, write_of, writes_of,
 };
 use sdb_model::{Answer, Event, Keyword};
 use sdb_record::{
@@ -27,7 +29,7 @@ use sdb_record::{
     version_of,
 };
 use sdb_sqltext::reads_word;
-use sdb_types::{Condition, Key, NoMemory, Record, Reply, Request, State, TxId, Txt};
+use sdb_types::{Condition, Key, NoMemory, Put, Record, Reply, Request, State, TxId, Txt};
 use std::alloc::Global;
 
 const LAST_MOMENT: i64 = 9_007_199_254_740_992;
@@ -64,6 +66,7 @@ fn fits_reply(word: Ack, reply: &Reply) -> bool
     match (word, reply) {
         (Ack::Yes, Reply::Applied) => true,
         (Ack::No, Reply::NotMet(_)) => true,
+        (Ack::No, Reply::NotAll(_, _)) => true,
         (Ack::OutOfMemory, Reply::NoMemory) => true,
         (Ack::NoAck, Reply::Found(_)) => true,
         (Ack::NoAck, Reply::Rows(_)) => true,
@@ -142,16 +145,16 @@ pub fn may_take(
     }
 }
 
-fn is_put(request: &Request, write: Option<&Write>, rec: Option<Record>) -> bool
-    ensures { result ≡ is_put_lem request.now (option_copied write.entry) rec }
+fn is_put(put: &Put, write: Option<&Write>, rec: Option<Record>) -> bool
+    ensures { result ≡ is_put_lem put.now (option_copied write.entry) rec }
 {
     match write {
         None => false,
         Some(write) => match rec {
             None => false,
             Some(rec) => {
-                let put = Request::PutIf(rec, condition_of(version_of(&write.base)));
-                is_same_request(request, &put)
+                let condition = condition_of(version_of(&write.base));
+                is_same_put(put, &Put { rec, condition })
             }
         },
     }
@@ -161,37 +164,78 @@ fn puts_write(
     alloc: Global,
     id: TxId,
     now: i64,
-    request: &Request,
     write: Option<&Write>,
+    put: &Put,
 ) -> Result<bool, NoMemory>
-    ensures { IfOk result (λ puts. puts ≡ puts_write_lem id.0 now request.now (option_copied write.entry)) }
+    ensures { IfOk result (λ puts. puts ≡ puts_write_lem id.0 now (option_copied write.entry) put.now) }
 {
     let rec = prepared_by(alloc, id, now, write)?;
-    Ok(is_put(request, write, rec))
+    Ok(is_put(put, write, rec))
 }
 
-/// A prepare: of a write, where its base is still there, once, and before any check.
+// Whether the puts prepare the writes of the keys, one after another.
+fn put_writes(
+    alloc: Global,
+    id: TxId,
+    now: i64,
+    writes: &[Write],
+    keys: &[Key],
+    puts: &[Put],
+) -> Result<bool, NoMemory>
+    ensures { IfOk result (λ well. well ≡ put_writes_lem id.0 now writes.now keys.now puts.now) }
+{
+    match (keys.split_first(), puts.split_first()) {
+        (None, None) => Ok(true),
+        (Some((key, others)), Some((put, more))) => {
+            if !puts_write(alloc, id, now, write_of(writes, key), put)? {
+                return Ok(false);
+            }
+            put_writes(alloc, id, now, writes, others, more)
+        }
+        (None, Some(_)) | (Some(_), None) => Ok(false),
+    }
+}
+
+fn are_new(past: &[Labelled], id: TxId, keys: &[Key]) -> bool
+    ensures { result ≡ are_new_lem past.now id.0 keys.now }
+{
+    keys.iter().all(|key| !is_asked(past, id, key))
+}
+
+/// A prepare: of writes, where their bases are still there, each once, and before any check.
 pub fn may_prepare(
     alloc: Global,
     past: &[Labelled],
     plans: &[Plan],
     event: &Event,
     id: TxId,
-    key: &Key,
+    keys: &[Key],
     word: Ack,
 ) -> Result<bool, NoMemory>
-    ensures { IfOk result (λ well. well ≡ prepares_well past.now plans.now event.now id.0 key.now word) }
+    ensures { IfOk result (λ well. well ≡ prepares_well past.now plans.now event.now id.0 keys.now word) }
 {
     match event {
         Event::Call(client, _, request, _, reply, _) => {
             if !in_commit(past, *client, id) || !fits_reply(word, reply) {
                 return Ok(false);
             }
-            if is_past_prepares(past, id) || is_asked(past, id, key) {
+            if is_past_prepares(past, id) || !are_new(past, id, keys) {
                 return Ok(false);
             }
-            let write = write_of(writes_of(plans, id), key);
-            puts_write(alloc, id, moment_of(plans, id), request, write)
+            if !are_some(keys) {
+                return Ok(false);
+            }
+            match puts_asked(alloc, request)? {
+                None => Ok(false),
+                Some(puts) => put_writes(
+                    alloc,
+                    id,
+                    moment_of(plans, id),
+                    writes_of(plans, id),
+                    keys,
+                    puts.as_slice(),
+                ),
+            }
         }
         _ => Ok(false),
     }
@@ -455,6 +499,7 @@ pub fn is_quiet(event: &Event) -> bool
         Event::Call(_, _, Request::Scan(_), _, _, _) => true,
         Event::Call(_, _, Request::PutIf(_, _), _, _, _) => false,
         Event::Call(_, _, Request::DeleteIf(_, _), _, _, _) => false,
+        Event::Call(_, _, Request::PutAll(_), _, _, _) => false,
         Event::Stop(_) => false,
         Event::Clock(_) => true,
         Event::Idle(_) => true,

@@ -1,11 +1,11 @@
-//! Equality of keys, records, requests and actions.
+//! Equality of keys, records, puts, requests and actions.
 ghost use Rattle.std.specs.Prelude.{◌≡◌};
 ghost use Rattle.sdb_types.specs.Order.{same_key};
 ghost use Rattle.check_protocol.specs.Rules.{same_action};
-ghost use Rattle.check_protocol.specs.Values.{same_record, same_request, same_span};
+ghost use Rattle.check_protocol.specs.Values.{same_put, same_record, same_request, same_span};
 
 use crate::labelled::Action;
-use sdb_types::{Key, Record, Request, Span};
+use sdb_types::{Key, Put, Record, Request, Span};
 
 #[tactic(auto, unfolding(sdb_types::specs::Order::same_key))]
 pub fn is_same_key(a: &Key, b: &Key) -> bool
@@ -17,6 +17,13 @@ pub fn is_same_key(a: &Key, b: &Key) -> bool
 #[tactic(auto, unfolding(crate::specs::Values::same_record))]
 pub fn is_same_record(a: &Record, b: &Record) -> bool
     ensures { result ≡ same_record a.now b.now }
+{
+    *a == *b
+}
+
+#[tactic(auto, unfolding(crate::specs::Values::same_put))]
+pub fn is_same_put(a: &Put, b: &Put) -> bool
+    ensures { result ≡ same_put a.now b.now }
 {
     *a == *b
 }

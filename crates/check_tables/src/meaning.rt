@@ -11,12 +11,12 @@ use check_protocol::is_committed;
 use sdb_store::holds;
 use sdb_types::{Condition, Record, Request};
 
-// The condition on which a call puts or deletes.
+// The condition on which a call puts or deletes one record.
 fn condition_asked(request: &Request) -> Option<&Condition>
     ensures { option_copied result ≡ condition_asked_lem request.now }
 {
     match request {
-        Request::Get(_) | Request::Scan(_) => None,
+        Request::Get(_) | Request::Scan(_) | Request::PutAll(_) => None,
         Request::PutIf(_, condition) | Request::DeleteIf(_, condition) => Some(condition),
     }
 }

@@ -1,5 +1,6 @@
 //! Transactions among the events of a run, and their order.
 ghost use Rattle.std.specs.Prelude.{◌≡◌, ◌<◌, [], IfOk, OnOk, Some, None, map, fold, length, option_map, find, take_while, nat_le};
+ghost use Rattle.sdb_types.specs.declared.record.Request.TheVariants.{PutAll};
 ghost use Rattle.sdb_model.specs.Transactions.{from_begin as from_begin_lem, ends as ends_lem, is_prepared_record as is_prepared_record_lem, prepares as prepares_lem, is_prepared_by, last_prepare as last_prepare_lem, point as point_lem, point_at};
 ghost use Rattle.sdb_contents.specs.Commits.{executed_of, all_executed};
 ghost use Rattle.check_tables.specs.Points.{inserted_point, order_of as order_of_lem};
@@ -8,7 +9,7 @@ use crate::transaction::{client_of, commit_of, ordinal_of};
 use sdb_contents::{Executed, begins, ends, statements_by};
 use sdb_model::{Event, How, Point, Points};
 use sdb_record::has_version;
-use sdb_types::{NoMemory, Record, Reply, Request, State, TxId};
+use sdb_types::{NoMemory, Put, Record, Reply, Request, State, TxId};
 use std::alloc::Global;
 
 /// Whether a record is one of a transaction in state PREPARED or DELETED.
@@ -18,13 +19,25 @@ pub fn is_prepared_record(rec: &Record, id: TxId) -> bool
     has_version(rec, id, State::Prepared) || has_version(rec, id, State::Deleted)
 }
 
+// Whether some of the puts are of such records.
+fn puts_prepared(puts: &[Put], id: TxId) -> bool
+    ensures { result ≡ prepares_lem id (PutAll puts.now) }
+{
+    match puts {
+        [] => false,
+        [put] => is_prepared_record(&put.rec, id),
+        [put, rest @ ..] => is_prepared_record(&put.rec, id) || puts_prepared(rest, id),
+    }
+}
+
 /// Whether a request is a prepare of a transaction.
 pub fn is_prepare(request: &Request, id: TxId) -> bool
     ensures { result ≡ prepares_lem id request.now }
 {
     match request {
         Request::PutIf(rec, _) => is_prepared_record(rec, id),
-        _ => false,
+        Request::PutAll(batch) => puts_prepared(batch.as_slice(), id),
+        Request::Get(_) | Request::Scan(_) | Request::DeleteIf(_, _) => false,
     }
 }
 

@@ -3,14 +3,14 @@ ghost use Rattle.std.specs.Prelude.{◌≡◌, find, is_some};
 ghost use Rattle.std.specs.Option.{option_and_then, option_copied};
 ghost use Rattle.std.specs.Result.{result_ok};
 ghost use Rattle.sdb_record.specs.Coordinator.{decision_in};
-ghost use Rattle.sdb_model.specs.Calls.{put_by, decision_in_reply as decision_in_reply_lem, record_at_key as record_at_key_lem};
+ghost use Rattle.sdb_model.specs.Calls.{put_by as put_by_lem, decision_in_reply as decision_in_reply_lem, record_at_key as record_at_key_lem};
 ghost use Rattle.check_tables.specs.Values.{decision_at as decision_at_lem, decision_found_at as decision_found_at_lem, decision_learned_at as decision_learned_at_lem};
 
 use crate::made::Made;
-use crate::request::asks_row;
+use crate::request::{asks_row, put_by};
 use check_protocol::decided;
 use sdb_record::Decided;
-use sdb_types::{Key, Record, Reply, Request};
+use sdb_types::{Key, Record, Reply, Request, put_at};
 use std::alloc::Global;
 
 /// What a reply says is at the one key that its request names.
@@ -21,6 +21,13 @@ pub fn record_at_key<'a>(request: &Request, reply: &'a Reply) -> Option<&'a Opti
         (Request::Get(_), Reply::Found(found)) => Some(found),
         (Request::PutIf(_, _), Reply::NotMet(found)) => Some(found),
         (Request::DeleteIf(_, _), Reply::NotMet(found)) => Some(found),
+        (Request::PutAll(batch), Reply::NotAll(place, found)) => {
+            if put_at(batch.as_slice(), *place).is_some() {
+                Some(found)
+            } else {
+                None
+            }
+        }
         _ => None,
     }
 }
@@ -35,11 +42,11 @@ fn decided_in(alloc: Global, found: &Option<Record>) -> Option<Decided>
 }
 
 fn put_decided(alloc: Global, request: &Request) -> Option<Decided>
-    ensures { result ≡ option_and_then (λ r. result_ok (decision_in r)) (put_by request.now) }
+    ensures { result ≡ option_and_then (λ r. result_ok (decision_in r)) (put_by_lem request.now) }
 {
-    match request {
-        Request::PutIf(row, _) => decided(alloc, row),
-        _ => None,
+    match put_by(request) {
+        Some(row) => decided(alloc, row),
+        None => None,
     }
 }
 

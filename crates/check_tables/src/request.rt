@@ -2,13 +2,33 @@
 ghost use Rattle.std.specs.Prelude.{◌≡◌};
 ghost use Rattle.std.specs.Option.{option_copied};
 ghost use Rattle.sdb_model.specs.Calls.{key_asked as key_asked_lem, is_read as is_read_lem, is_removal as is_removal_lem, put_by as put_by_lem};
-ghost use Rattle.sdb_model.specs.Events.{table_asked};
+ghost use Rattle.sdb_types.specs.declared.record.Request.TheVariants.{PutAll};
 ghost use Rattle.sdb_model.specs.ReadSet.{reads_rows as reads_rows_lem};
 ghost use Rattle.check_tables.specs.Values.{made_of, asks_row as asks_row_lem};
 
 use crate::made::Made;
 use sdb_record::is_coordinator;
-use sdb_types::{Condition, Key, Record, Request, State, TableName};
+use sdb_types::{Condition, Key, Put, Record, Request, State};
+
+// The key of a put that is alone.
+fn key_alone(puts: &[Put]) -> Option<&Key>
+    ensures { option_copied result ≡ key_asked_lem (PutAll puts.now) }
+{
+    match puts {
+        [put] => Some(&put.rec.key),
+        _ => None,
+    }
+}
+
+// The record of a put that is alone.
+fn put_alone(puts: &[Put]) -> Option<&Record>
+    ensures { option_copied result ≡ put_by_lem (PutAll puts.now) }
+{
+    match puts {
+        [put] => Some(&put.rec),
+        _ => None,
+    }
+}
 
 /// The one key that a request asks for.
 pub fn key_asked(request: &Request) -> Option<&Key>
@@ -19,6 +39,7 @@ pub fn key_asked(request: &Request) -> Option<&Key>
         Request::Scan(_) => None,
         Request::PutIf(rec, _) => Some(&rec.key),
         Request::DeleteIf(key, _) => Some(key),
+        Request::PutAll(batch) => key_alone(batch.as_slice()),
     }
 }
 
@@ -45,6 +66,7 @@ pub fn put_by(request: &Request) -> Option<&Record>
 {
     match request {
         Request::PutIf(rec, _) => Some(rec),
+        Request::PutAll(batch) => put_alone(batch.as_slice()),
         _ => None,
     }
 }
@@ -59,20 +81,13 @@ pub fn asks_row(row: &Key, request: &Request) -> bool
     }
 }
 
-fn asked_table(request: &Request) -> &TableName
-    ensures { result.now ≡ table_asked request.now }
-{
-    match request {
-        Request::Get(key) => &key.table,
-        Request::Scan(span) => &span.table,
-        Request::PutIf(rec, _) => &rec.key.table,
-        Request::DeleteIf(key, _) => &key.table,
-    }
-}
-
 /// Whether a call reads rows of tables, and not the coordinator's.
 pub fn reads_rows(made: &Made) -> bool
     ensures { result ≡ reads_rows_lem (made_of made.now) }
 {
-    !is_coordinator(asked_table(&made.request)) && is_read(&made.request)
+    match &made.request {
+        Request::Get(key) => !is_coordinator(&key.table),
+        Request::Scan(span) => !is_coordinator(&span.table),
+        Request::PutIf(_, _) | Request::DeleteIf(_, _) | Request::PutAll(_) => false,
+    }
 }

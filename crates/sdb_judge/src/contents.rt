@@ -5,7 +5,10 @@ use check_tables::PlainTables;
 use sdb_model::How;
 use sdb_record::{Image, Images};
 use sdb_store::holds;
-use sdb_types::{Condition, Duplicate, Key, NoMemory, Record, Records, Reply, Request, Seq, Span};
+use sdb_types::{
+    Batch, Condition, Duplicate, Key, NoMemory, Record, Records, Reply, Request, Seq, Span,
+    is_well_formed,
+};
 use std::alloc::Global;
 
 /// The same contents.
@@ -71,6 +74,19 @@ fn put_reply(condition: &Condition, found: Option<Record>) -> Reply {
     }
 }
 
+// The reply to a batch: the place of the first put whose condition fails, from 1, and what is at its key.
+fn batch_reply(batch: &Batch, rows: &PlainTables) -> Result<Reply, NoMemory> {
+    let mut place: u32 = 0;
+    for put in batch {
+        place = place.saturating_add(1);
+        let found = record_there(rows, &put.rec.key)?;
+        if !holds(&put.condition, found.as_ref()) {
+            return Ok(Reply::NotAll(place, found));
+        }
+    }
+    Ok(Reply::Applied)
+}
+
 // The reply of a store of these contents.
 fn reply_to(alloc: Global, request: &Request, rows: &PlainTables) -> Result<Reply, NoMemory> {
     match request {
@@ -78,6 +94,7 @@ fn reply_to(alloc: Global, request: &Request, rows: &PlainTables) -> Result<Repl
         Request::Scan(span) => Ok(Reply::Rows(records_in(alloc, rows, span)?)),
         Request::PutIf(rec, condition) => Ok(put_reply(condition, record_there(rows, &rec.key)?)),
         Request::DeleteIf(key, condition) => Ok(put_reply(condition, record_there(rows, key)?)),
+        Request::PutAll(batch) => batch_reply(batch, rows),
     }
 }
 
@@ -109,11 +126,23 @@ fn after_delete(
     }
 }
 
+fn after_batch(alloc: Global, batch: &Batch, rows: &PlainTables) -> Result<PlainTables, NoMemory> {
+    let mut left = copied(alloc, rows)?;
+    if !matches!(batch_reply(batch, rows)?, Reply::Applied) {
+        return Ok(left);
+    }
+    for put in batch {
+        left.put(put.rec.key.copy()?, put.rec.columns.copy()?)?;
+    }
+    Ok(left)
+}
+
 // What a store contains after a request.
 fn after(alloc: Global, request: &Request, rows: &PlainTables) -> Result<PlainTables, NoMemory> {
     match request {
         Request::PutIf(rec, condition) => after_put(alloc, rec, condition, rows),
         Request::DeleteIf(key, condition) => after_delete(alloc, key, condition, rows),
+        Request::PutAll(batch) => after_batch(alloc, batch, rows),
         _ => copied(alloc, rows),
     }
 }
@@ -135,7 +164,8 @@ fn seen(
     }
 }
 
-/// What a store contains after a call or a landing, or none where it doesn't reply so. That the store itself failed counts as no reply.
+/// What a store contains after a call or a landing, or none where it doesn't reply so. That the store itself failed counts as no reply, and
+/// no store replies to a batch that may not be put.
 pub fn performed(
     alloc: Global,
     request: &Request,
@@ -143,6 +173,9 @@ pub fn performed(
     reply: &Reply,
     rows: &PlainTables,
 ) -> Result<Option<PlainTables>, NoMemory> {
+    if !is_well_formed(request) {
+        return Ok(None);
+    }
     match (how, reply) {
         (How::Seen, reply) => seen(alloc, request, reply, rows),
         (How::Lost, Reply::Fault) => Ok(Some(after(alloc, request, rows)?)),

@@ -91,12 +91,16 @@ pub fn rows_of<'a>(store_contents: &'a [StoreContents], name: &Name) -> Option<&
     None
 }
 
-fn namespace_of(request: &Request) -> &Name {
+fn namespace_of(request: &Request) -> Option<&Name> {
     match request {
-        Request::Get(key) => &key.table.ns,
-        Request::Scan(span) => &span.table.ns,
-        Request::PutIf(rec, _) => &rec.key.table.ns,
-        Request::DeleteIf(key, _) => &key.table.ns,
+        Request::Get(key) => Some(&key.table.ns),
+        Request::Scan(span) => Some(&span.table.ns),
+        Request::PutIf(rec, _) => Some(&rec.key.table.ns),
+        Request::DeleteIf(key, _) => Some(&key.table.ns),
+        Request::PutAll(batch) => match batch.as_slice().first() {
+            Some(put) => Some(&put.rec.key.table.ns),
+            None => None,
+        },
     }
 }
 
@@ -106,8 +110,11 @@ fn is_own_store(
     store: &Name,
     request: &Request,
 ) -> bool {
-    match store_of(places, store_contents, namespace_of(request)) {
-        Some(own) => own.cmp(store).is_eq(),
+    match namespace_of(request) {
+        Some(ns) => match store_of(places, store_contents, ns) {
+            Some(own) => own.cmp(store).is_eq(),
+            None => false,
+        },
         None => false,
     }
 }
