@@ -4,7 +4,7 @@ use crate::words::number;
 use sdb_hashed::Hashed;
 use sdb_ordered::Ordered;
 use sdb_store::{Fails, Store, call};
-use sdb_types::{Condition, Key, Record, Reply, Request, Span, State};
+use sdb_types::{Condition, Key, Record, Reply, Request, Span, State, is_well_formed};
 use std::alloc::Global;
 use std::env::Args;
 
@@ -103,7 +103,11 @@ fn fill<S: Store>(alloc: Global, store: &mut S, records: i64) -> Option<()> {
 }
 
 fn make<S: Store>(store: &mut S, request: &Request) -> Option<usize> {
-    counted(&call(store, request))
+    if is_well_formed(request) {
+        counted(&call(store, request))
+    } else {
+        None
+    }
 }
 
 // Goes through the requests, one a turn, and returns how many records all replies showed.

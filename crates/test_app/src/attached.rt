@@ -9,7 +9,7 @@ use sdb_ordered::Ordered;
 use sdb_sqlite::Kept;
 use sdb_store::{Fails, Store};
 use sdb_stores::Stores;
-use sdb_types::{Condition, Key, Name, Record, Reply, Span};
+use sdb_types::{Batch, Condition, Key, Name, Record, Reply, Span};
 use std::alloc::Global;
 use std::test::Fail;
 
@@ -61,6 +61,13 @@ impl Store for Short {
             return Reply::NoMemory;
         }
         self.ordered.delete_if(key, condition)
+    }
+
+    fn put_all(&mut self, batch: &Batch) -> Reply {
+        if !self.finds_memory() {
+            return Reply::NoMemory;
+        }
+        self.ordered.put_all(batch)
     }
 }
 

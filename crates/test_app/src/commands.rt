@@ -294,7 +294,7 @@ static BENCHES: [Steps; 3] = [
             Step::Done(
                 &["bench", "1"],
                 b"",
-                b"transactions 1\ncommitted 1\nother 0\ncalls 214\nuneven 0\n",
+                b"transactions 1\ncommitted 1\nother 0\ncalls 106\nuneven 0\n",
             ),
             Step::Refused(
                 &["bench", "1"],
@@ -315,7 +315,7 @@ static BENCHES: [Steps; 3] = [
             Step::Done(
                 &["bench", "1"],
                 b"",
-                b"transactions 1\ncommitted 1\nother 0\ncalls 214\nuneven 0\n",
+                b"transactions 1\ncommitted 1\nother 0\ncalls 106\nuneven 0\n",
             ),
         ],
     },

@@ -1,6 +1,6 @@
 //! The events of a run, named in short.
 use crate::writes::{ONE, Second, THREE, TWO, account, held, left, prepared_of, write_of};
-use check_protocol::{Ack, Action, Labelled, Plan, ReadItem};
+use check_protocol::{Ack, Action, Keys, Labelled, Plan, ReadItem};
 use sdb_model::{Answer, Event, How};
 use sdb_record::{
     Decision, Read, Writes, condition_of, coordinator_key, coordinator_row, version_of,
@@ -236,14 +236,24 @@ fn event_of(alloc: Global, second: Second, step: Step) -> Result<Event, Fail> {
     }
 }
 
+// The account alone.
+fn accounts(alloc: Global) -> Result<Keys, Fail> {
+    let key = account(alloc)?;
+    let mut keys = Keys::new(alloc);
+    keys.push(key)?;
+    Ok(keys)
+}
+
 // The part of a step that is about the account.
-fn part_of(step: Step, key: Key) -> Action {
+fn part_of(alloc: Global, step: Step) -> Result<Action, Fail> {
     match step {
-        Step::Prepares(id, _) => Action::Prepares(id, key, Ack::Yes),
-        Step::Rolls(id, _) | Step::Finishes(id, _) => Action::Rolls(id, key, Decision::Committed),
-        Step::Undoes(id, _) => Action::Rolls(id, key, Decision::Aborted),
-        Step::Removes(id, _) => Action::Removes(key, id),
-        _ => Action::Other,
+        Step::Prepares(id, _) => Ok(Action::Prepares(id, accounts(alloc)?, Ack::Yes)),
+        Step::Rolls(id, _) | Step::Finishes(id, _) => {
+            Ok(Action::Rolls(id, accounts(alloc)?, Decision::Committed))
+        }
+        Step::Undoes(id, _) => Ok(Action::Rolls(id, accounts(alloc)?, Decision::Aborted)),
+        Step::Removes(id, _) => Ok(Action::Removes(account(alloc)?, id)),
+        _ => Ok(Action::Other),
     }
 }
 
@@ -259,7 +269,7 @@ fn role_of(alloc: Global, step: Step) -> Result<Action, Fail> {
         Step::Stops(_, client) => Ok(Action::Stops(client)),
         Step::Reads(_, _) | Step::Sees(_, _) | Step::Scans(_) => Ok(Action::Other),
         Step::Puts(_, _) | Step::Claims(_, _) => Ok(Action::Other),
-        _ => Ok(part_of(step, account(alloc)?)),
+        _ => part_of(alloc, step),
     }
 }
 

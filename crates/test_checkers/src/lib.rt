@@ -2,6 +2,8 @@
 #![tactic(auto)]
 
 #[cfg(test)]
+mod batches;
+#[cfg(test)]
 mod claims;
 #[cfg(test)]
 mod counted;
@@ -15,6 +17,8 @@ mod executions;
 mod forged;
 #[cfg(test)]
 mod generated;
+#[cfg(test)]
+mod groups;
 #[cfg(test)]
 mod lawful;
 #[cfg(test)]

@@ -3,8 +3,8 @@ use check_answers::{Shelves, StoreContents, Stores};
 use check_tables::PlainTables;
 use sdb_model::{Event, How, Places};
 use sdb_ordered::Tree;
-use sdb_store::Rows;
-use sdb_types::{Duplicate, Name, NameRefused, NoMemory, Record, Request, Seq};
+use sdb_store::{Rows, holds};
+use sdb_types::{Duplicate, Name, NameRefused, NoMemory, Put, Record, Request, Seq};
 use std::alloc::Global;
 use test_builders::span_of;
 
@@ -15,6 +15,25 @@ static TABLES: [(&str, &str); 3] = [
     ("shop", "item"),
 ];
 
+fn are_met(tree: &Tree, puts: &[Put]) -> Result<bool, NoMemory> {
+    for put in puts {
+        let found = tree.find(&put.rec.key)?;
+        if !holds(&put.condition, found.as_ref()) {
+            return Ok(false);
+        }
+    }
+    Ok(true)
+}
+
+fn put_all(tree: &mut Tree, puts: &[Put]) -> Result<(), NoMemory> {
+    if are_met(tree, puts)? {
+        for put in puts {
+            tree.insert(put.rec.copy()?)?;
+        }
+    }
+    Ok(())
+}
+
 fn ask(tree: &mut Tree, request: &Request) -> Result<(), NoMemory> {
     match request {
         Request::PutIf(rec, condition) => {
@@ -23,7 +42,8 @@ fn ask(tree: &mut Tree, request: &Request) -> Result<(), NoMemory> {
         Request::DeleteIf(key, condition) => {
             tree.delete(key, condition)?;
         }
-        _ => {}
+        Request::PutAll(batch) => put_all(tree, batch.as_slice())?,
+        Request::Get(_) | Request::Scan(_) => {}
     }
     Ok(())
 }

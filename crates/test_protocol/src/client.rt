@@ -47,6 +47,14 @@ fn put_call(out: &mut String, request: &Request) -> Result<(), NoMemory> {
             out.push_str("delete ")?;
             put_key(out, key)
         }
+        Request::PutAll(batch) => {
+            out.push_str("put")?;
+            for put in batch.as_slice() {
+                out.push_str(" ")?;
+                put_record(out, &put.rec)?;
+            }
+            Ok(())
+        }
     }
 }
 

@@ -1,5 +1,6 @@
 //! Whole COMMITs: of two deletes, and of one read.
 ghost use Rattle.std.specs.Prelude.{All};
+ghost use Rattle.sdb_snapshot.specs.Written.{HaveKeysOnce};
 ghost use Rattle.sdb_record.specs.Rolls.{IsWrite};
 
 use crate::machine::{AnswerGiven, Machine, conflict_at, if_own, runs_to_end};
@@ -55,7 +56,8 @@ fn commit_plays(
     reads: Reads,
     steps: &[(Answer, AnswerGiven)],
 ) -> bool
-    requires { All IsWrite writes }
+    requires valid { All IsWrite writes }
+    requires once { HaveKeysOnce writes }
 {
     match CommitPhases::new(alloc, OWN, 7, writes, reads, Scans::new(alloc)) {
         Ok(commit) => runs_to_end(alloc, commit, steps),

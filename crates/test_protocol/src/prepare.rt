@@ -1,9 +1,13 @@
-//! The prepares of two deletes.
+//! The prepares of two deletes, of two partitions.
+ghost use Rattle.std.specs.Prelude.{All};
+ghost use Rattle.sdb_record.specs.Rolls.{IsWrite};
+
 use crate::machine::{AnswerGiven, Machine, conflict_at, runs_as};
 use crate::replies::{Answer, BAD_ROW, reply_to};
 use crate::writes::two_deletes;
 use sdb_prepare::{Prepare, PrepareStep};
-use sdb_types::TxId;
+use sdb_record::{Writes, grouped};
+use sdb_types::{NoMemory, TxId};
 use std::alloc::Global;
 use std::test::Fail;
 use test_builders::{Case, all_cases};
@@ -78,9 +82,18 @@ impl Prepared {
     }
 }
 
+#[tactic(auto, using(crate::proofs::Groups::groups_fit))]
+fn begin(alloc: Global, writes: &Writes) -> Result<Prepare, NoMemory>
+    requires { All IsWrite writes.now }
+{
+    let _count = writes.len();
+    let groups = grouped(writes)?;
+    Prepare::new(alloc, &groups, OWN, 7)
+}
+
 impl Case for Prepared {
     fn holds(self, alloc: Global) -> Result<bool, Fail> {
-        match Prepare::new(alloc, &two_deletes(alloc)?, OWN, 7) {
+        match begin(alloc, &two_deletes(alloc)?) {
             Ok(prepare) => Ok(self.runs_as(alloc, prepare)),
             Err(_) => Ok(false),
         }

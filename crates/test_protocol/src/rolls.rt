@@ -6,7 +6,7 @@ use crate::machine::{AnswerGiven, Machine, runs_to_end, written_key};
 use crate::replies::{Answer, reply_to};
 use crate::writes::two_deletes;
 use sdb_decide::{Abort, Commit};
-use sdb_record::Writes;
+use sdb_record::{Writes, grouped};
 use sdb_types::{Condition, NoMemory, Request, TxId};
 use std::alloc::Global;
 use std::test::Fail;
@@ -104,10 +104,12 @@ static ROLLS: [Rolls; 4] = [
 ];
 
 // The abort of these writes.
+#[tactic(auto, using(crate::proofs::Groups::within_groups))]
 fn begin(alloc: Global, writes: &Writes, touched: usize, with_row: bool) -> Result<Abort, NoMemory>
     requires { All IsWrite writes.now }
 {
-    let mut abort = Abort::new(alloc, writes, OWN, 7)?;
+    let groups = grouped(writes)?;
+    let mut abort = Abort::new(alloc, &groups, OWN, 7)?;
     if touched <= writes.len() {
         abort.start(touched, with_row);
     }
@@ -129,10 +131,17 @@ fn plays_back(
     }
 }
 
+fn forward(alloc: Global, writes: &Writes) -> Result<Commit, NoMemory>
+    requires { All IsWrite writes.now }
+{
+    let groups = grouped(writes)?;
+    Commit::new(alloc, &groups, OWN, 7)
+}
+
 fn plays_forward(alloc: Global, writes: &Writes, steps: &[(Answer, AnswerGiven)]) -> bool
     requires { All IsWrite writes.now }
 {
-    match Commit::new(alloc, writes, OWN, 7) {
+    match forward(alloc, writes) {
         Ok(commit) => runs_to_end(alloc, commit, steps),
         Err(_) => false,
     }

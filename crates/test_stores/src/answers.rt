@@ -27,6 +27,59 @@ const THEN: &str =
 const FAILING: &str =
     "scalardb report 1\nevents 4\n1 call 1 s put shop.item(1;1){amount=5,tx_id='00000000-0000-0000-0000-000000000007',tx_state=3} if absent seen fault -\n2 call 1 s get shop.item(1;1) seen found shop.item(1;1){amount=5,tx_id='00000000-0000-0000-0000-000000000007',tx_state=3} -\n3 call 1 s put shop.item(2;1){amount=5,tx_id='00000000-0000-0000-0000-000000000007',tx_state=3} if absent seen fault -\n4 call 1 s get shop.item(2;1) seen found none -\norder 0\ntables 0\nend\n";
 
+// Batches on a store that begins empty, with their replies: one of three, some that are refused at the first put, at the second and at the
+// last, of which none is put, batches of one, one over records and between them, and one of another partition.
+const BATCHES: &str =
+    "scalardb report 1\nevents 12\n1 call 1 s putall 3 shop.item(1;1){amount=1,tx_id='00000000-0000-0000-0000-000000000007',tx_state=3} if absent shop.item(1;2){amount=2,tx_id='00000000-0000-0000-0000-000000000007',tx_state=3} if absent shop.item(1;3){amount=3,tx_id='00000000-0000-0000-0000-000000000007',tx_state=3} if absent seen applied -\n2 call 1 s putall 2 shop.item(1;1){amount=4,tx_id='00000000-0000-0000-0000-000000000007',tx_state=3} if absent shop.item(1;4){amount=4,tx_id='00000000-0000-0000-0000-000000000007',tx_state=3} if absent seen notall 1 shop.item(1;1){amount=1,tx_id='00000000-0000-0000-0000-000000000007',tx_state=3} -\n3 call 1 s putall 3 shop.item(1;4){amount=4,tx_id='00000000-0000-0000-0000-000000000007',tx_state=3} if absent shop.item(1;2){amount=4,tx_id='00000000-0000-0000-0000-000000000007',tx_state=3} if 00000000-0000-0000-0000-000000000007 1 shop.item(1;5){amount=4,tx_id='00000000-0000-0000-0000-000000000007',tx_state=3} if absent seen notall 2 shop.item(1;2){amount=2,tx_id='00000000-0000-0000-0000-000000000007',tx_state=3} -\n4 call 1 s putall 3 shop.item(1;4){amount=4,tx_id='00000000-0000-0000-0000-000000000007',tx_state=3} if absent shop.item(1;2){amount=4,tx_id='00000000-0000-0000-0000-000000000007',tx_state=3} if 00000000-0000-0000-0000-000000000007 3 shop.item(1;5){amount=4,tx_id='00000000-0000-0000-0000-000000000007',tx_state=3} if 00000000-0000-0000-0000-000000000007 3 seen notall 3 none -\n5 call 1 s scan shop.item seen rows 3 shop.item(1;1){amount=1,tx_id='00000000-0000-0000-0000-000000000007',tx_state=3} shop.item(1;2){amount=2,tx_id='00000000-0000-0000-0000-000000000007',tx_state=3} shop.item(1;3){amount=3,tx_id='00000000-0000-0000-0000-000000000007',tx_state=3} -\n6 call 1 s putall 1 shop.item(1;1){amount=5,tx_id='00000000-0000-0000-0000-000000000007',tx_state=3} if 00000000-0000-0000-0000-000000000007 3 seen applied -\n7 call 1 s putall 1 shop.item(1;1){amount=6,tx_id='00000000-0000-0000-0000-000000000007',tx_state=3} if absent seen notall 1 shop.item(1;1){amount=5,tx_id='00000000-0000-0000-0000-000000000007',tx_state=3} -\n8 call 1 s putall 3 shop.item(1;3){amount=7,tx_id='00000000-0000-0000-0000-000000000007',tx_state=3} if 00000000-0000-0000-0000-000000000007 3 shop.item(1;0){amount=7,tx_id='00000000-0000-0000-0000-000000000007',tx_state=3} if absent shop.item(1;2){amount=7,tx_id='00000000-0000-0000-0000-000000000007',tx_state=3} if 00000000-0000-0000-0000-000000000007 3 seen applied -\n9 call 1 s scan shop.item(1) seen rows 4 shop.item(1;0){amount=7,tx_id='00000000-0000-0000-0000-000000000007',tx_state=3} shop.item(1;1){amount=5,tx_id='00000000-0000-0000-0000-000000000007',tx_state=3} shop.item(1;2){amount=7,tx_id='00000000-0000-0000-0000-000000000007',tx_state=3} shop.item(1;3){amount=7,tx_id='00000000-0000-0000-0000-000000000007',tx_state=3} -\n10 call 1 s putall 2 shop.item(2;2){amount=8,tx_id='00000000-0000-0000-0000-000000000007',tx_state=3} if absent shop.item(2;1){amount=8,tx_id='00000000-0000-0000-0000-000000000007',tx_state=3} if absent seen applied -\n11 call 1 s scan shop.item seen rows 6 shop.item(1;0){amount=7,tx_id='00000000-0000-0000-0000-000000000007',tx_state=3} shop.item(1;1){amount=5,tx_id='00000000-0000-0000-0000-000000000007',tx_state=3} shop.item(1;2){amount=7,tx_id='00000000-0000-0000-0000-000000000007',tx_state=3} shop.item(1;3){amount=7,tx_id='00000000-0000-0000-0000-000000000007',tx_state=3} shop.item(2;1){amount=8,tx_id='00000000-0000-0000-0000-000000000007',tx_state=3} shop.item(2;2){amount=8,tx_id='00000000-0000-0000-0000-000000000007',tx_state=3} -\n12 call 1 s get shop.item(2;2) seen found shop.item(2;2){amount=8,tx_id='00000000-0000-0000-0000-000000000007',tx_state=3} -\norder 0\ntables 0\nend\n";
+
+// Batches of which the first fails after its effect, and the second before it.
+const FAILING_BATCHES: &str =
+    "scalardb report 1\nevents 4\n1 call 1 s putall 2 shop.item(1;1){amount=1,tx_id='00000000-0000-0000-0000-000000000007',tx_state=3} if absent shop.item(1;2){amount=2,tx_id='00000000-0000-0000-0000-000000000007',tx_state=3} if absent seen fault -\n2 call 1 s scan shop.item seen rows 2 shop.item(1;1){amount=1,tx_id='00000000-0000-0000-0000-000000000007',tx_state=3} shop.item(1;2){amount=2,tx_id='00000000-0000-0000-0000-000000000007',tx_state=3} -\n3 call 1 s putall 2 shop.item(2;1){amount=1,tx_id='00000000-0000-0000-0000-000000000007',tx_state=3} if absent shop.item(2;2){amount=2,tx_id='00000000-0000-0000-0000-000000000007',tx_state=3} if absent seen fault -\n4 call 1 s scan shop.item seen rows 2 shop.item(1;1){amount=1,tx_id='00000000-0000-0000-0000-000000000007',tx_state=3} shop.item(1;2){amount=2,tx_id='00000000-0000-0000-0000-000000000007',tx_state=3} -\norder 0\ntables 0\nend\n";
+
+fn batches(alloc: Global) -> Result<(), Fail> {
+    replies_of(
+        alloc,
+        "ordered batches",
+        Ordered::new(alloc, Fails::new(alloc)),
+        BATCHES,
+    )?;
+    replies_of(
+        alloc,
+        "hashed batches",
+        Hashed::new(alloc, Fails::new(alloc)),
+        BATCHES,
+    )?;
+    replies_of(alloc, "kept batches", Kept::in_memory(alloc)?, BATCHES)
+}
+
+fn failing_batches(alloc: Global) -> Result<(), Fail> {
+    replies_of(
+        alloc,
+        "failing ordered batches",
+        Ordered::new(alloc, failing_calls(alloc)?),
+        FAILING_BATCHES,
+    )?;
+    replies_of(
+        alloc,
+        "failing hashed batches",
+        Hashed::new(alloc, failing_calls(alloc)?),
+        FAILING_BATCHES,
+    )
+}
+
+// Through a box.
+fn boxed_batches(alloc: Global) -> bool {
+    let mut stores = Stores::new(alloc);
+    attach_both(alloc, &mut stores, &[]) && runs(alloc, &mut stores, BATCHES)
+}
+
+#[test]
+fn stores_put_batches_whole_or_not_at_all(rt: HostRuntime) -> Result<(), Fail> {
+    batches(rt.alloc())?;
+    hold(Ok(boxed_batches(rt.alloc())))?;
+    failing_batches(rt.alloc())
+}
+
 fn ordered(alloc: Global) -> Result<(), Fail> {
     replies_of(
         alloc,

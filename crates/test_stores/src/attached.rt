@@ -5,7 +5,7 @@ use sdb_report::read_report;
 use sdb_sqlite::Kept as Database;
 use sdb_store::{Fail as Failing, Fails, Puppet, Replies, Store};
 use sdb_stores::{Registry, Stores};
-use sdb_types::Name;
+use sdb_types::{Name, is_well_formed};
 use std::alloc::Global;
 
 fn attach(alloc: Global, stores: &mut Stores, name: &str, store: Box<dyn Store>) -> bool {
@@ -54,7 +54,7 @@ pub fn attach_sqlite(alloc: Global, stores: &mut Stores) -> bool {
 
 fn performs(stores: &mut Stores, event: &Event) -> bool {
     match event {
-        Event::Call(_, _, request, _, reply, _) if stores.len() != 0 => {
+        Event::Call(_, _, request, _, reply, _) if stores.len() != 0 && is_well_formed(request) => {
             stores.perform(request) == *reply
         }
         _ => false,

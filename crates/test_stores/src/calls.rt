@@ -2,13 +2,16 @@
 use sdb_model::Event;
 use sdb_report::read_report;
 use sdb_store::{Store, call};
+use sdb_types::is_well_formed;
 use std::alloc::Global;
 use std::test::Fail;
 use test_builders::Otherwise;
 
 fn answers<S: Store>(store: &mut S, event: &Event) -> bool {
     match event {
-        Event::Call(_, _, request, _, reply, _) => call(store, request) == *reply,
+        Event::Call(_, _, request, _, reply, _) => {
+            is_well_formed(request) && call(store, request) == *reply
+        }
         _ => false,
     }
 }

@@ -6,7 +6,7 @@ ghost use Rattle.sdb_types.specs.declared.record.Reply.TheVariants.{Fault, NoMem
 
 use sdb_store::{Store, call};
 use sdb_stores::{AttachRefused, PlaceRefused, Registry, Stores};
-use sdb_types::{Condition, Key, Name, Record, Reply, Span};
+use sdb_types::{Batch, Condition, Key, Name, Record, Reply, Span, is_well_formed};
 use std::alloc::Global;
 use std::test::Fail;
 use test_builders::{Ask, Place, hold, request_of};
@@ -45,6 +45,10 @@ impl Store for Broken {
     fn delete_if(&mut self, _: &Key, _: &Condition) -> Reply {
         self.fail()
     }
+
+    fn put_all(&mut self, _: &Batch) -> Reply {
+        self.fail()
+    }
 }
 
 // There is never memory.
@@ -79,6 +83,10 @@ impl Store for Full {
     }
 
     fn delete_if(&mut self, _: &Key, _: &Condition) -> Reply {
+        self.refuse()
+    }
+
+    fn put_all(&mut self, _: &Batch) -> Reply {
         self.refuse()
     }
 }
@@ -128,6 +136,13 @@ impl Store for Turns {
     }
 
     fn delete_if(&mut self, _: &Key, _: &Condition) -> Reply {
+        if self.is_odd() {
+            return Reply::NoMemory;
+        }
+        self.broken.fail()
+    }
+
+    fn put_all(&mut self, _: &Batch) -> Reply {
         if self.is_odd() {
             return Reply::NoMemory;
         }
@@ -193,8 +208,8 @@ fn answer_of(reply: &Reply) -> Answer {
 // How a get of the item is answered.
 fn got<S: Store>(alloc: Global, store: &mut S) -> Answer {
     match request_of(alloc, Ask::Get(ITEM)) {
-        Ok(request) => answer_of(&call(store, &request)),
-        Err(_) => Answer::Other,
+        Ok(request) if is_well_formed(&request) => answer_of(&call(store, &request)),
+        _ => Answer::Other,
     }
 }
 
@@ -257,8 +272,8 @@ fn asked(alloc: Global, stores: &mut Stores) -> Answer {
         return Answer::Other;
     }
     match request_of(alloc, Ask::Get(ITEM)) {
-        Ok(request) => answer_of(&stores.perform(&request)),
-        Err(_) => Answer::Other,
+        Ok(request) if is_well_formed(&request) => answer_of(&stores.perform(&request)),
+        _ => Answer::Other,
     }
 }
 
