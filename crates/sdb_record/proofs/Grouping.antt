@@ -22,13 +22,13 @@ use Rattle.sdb_record.specs.Groups.{is_beside, has_group, has_room_for, placed, 
 
 ---- one partition
 
-same_parts : (a b : Key) → same_partition a b ≡ true → (a.table ≡ b.table) × (a.partition ≡ b.partition)
+pub same_parts : (a b : Key) → same_partition a b ≡ true → (a.table ≡ b.table) × (a.partition ≡ b.partition)
 same_parts a b h = (
   table_exact a.table b.table (equal_of (table_cmp a.table b.table) (and_first (is_eq (table_cmp a.table b.table)) (is_eq (slice_cmp value_cmp a.partition b.partition)) h)),
   slice_cmp-IsAntisymmetric value_exact a.partition b.partition (equal_of (slice_cmp value_cmp a.partition b.partition) (and_second (is_eq (table_cmp a.table b.table)) (is_eq (slice_cmp value_cmp a.partition b.partition)) h)),
 )
 
-same_self : (a : Key) → same_partition a a ≡ true
+pub same_self : (a : Key) → same_partition a a ≡ true
 same_self a = and_both (is_eq (table_cmp a.table a.table)) (is_eq (slice_cmp value_cmp a.partition a.partition)) (ap is_eq (tied_itself table_total a.table)) (ap is_eq (tied_itself (lists_total value_total) a.partition))
 
 -- keys of one partition are of the same partitions

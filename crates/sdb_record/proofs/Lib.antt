@@ -11,5 +11,6 @@ mod WriteLaws
 mod PreparedRecords
 mod ImageLaws
 mod Grouping
+mod Latest
 mod KeysOnce
 pub mod Public

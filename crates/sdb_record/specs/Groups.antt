@@ -1,5 +1,5 @@
 -- Writes in groups, each of which goes to a store in one call.
-use Rattle.std.specs.Prelude.{◌≡◌, ◌+◌, ◌<◌, ◌≤◌, ◌^◌, ℕ, Bool, true, false, not, nat_lt, ◌&&◌, if◌then◌else◌, List, [], ◌∷◌, ◌++◌, map, length, slice_index_or, drop}
+use Rattle.std.specs.Prelude.{◌≡◌, ◌+◌, ◌<◌, ◌≤◌, ◌^◌, ℕ, Bool, true, false, not, nat_lt, ◌&&◌, if◌then◌else◌, List, [], ◌∷◌, ◌++◌, map, length, slice_index_or, drop, Option, Some, None}
 use Rattle.std.specs.List.{AllByRecursion, flat_map, list_any}
 use Rattle.sdb_record.specs.Types.{Key}
 use Rattle.sdb_types.specs.Order.{are_distinct, in_one_partition, same_partition}
@@ -61,3 +61,16 @@ pub record IsLatest (key : Key) (gs : List (List Write)) (i : ℕ) : Type 0 wher
   pub inside : i < length gs
   pub own : (d : List Write) → is_beside key (slice_index_or gs i d) ≡ true
   pub last : has_group key (drop (i + 1) gs) ≡ false
+
+-- the key of a partition: that of one of its keys, without clustering values
+abbrev pub partition_of : Key → Key
+partition_of k = record { table = k.table; partition = k.partition; clustering = [] }
+
+-- where the latest group of the partition of a key is, if there is one
+abbrev pub LatestIs : Key → List (List Write) → Option ℕ → Type 0
+LatestIs key gs None = has_group key gs ≡ false
+LatestIs key gs (Some i) = IsLatest key gs i
+
+-- By the key of each partition it is found where its latest group is.
+abbrev pub HaveLatest : (Key → Option ℕ) → List (List Write) → Type 0
+HaveLatest at gs = (key : Key) → LatestIs key gs (at (partition_of key))

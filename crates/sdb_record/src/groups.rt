@@ -1,10 +1,13 @@
 //! Writes in groups, each of which goes to a store in one call.
-ghost use Rattle.std.specs.Prelude.{◌≡◌, ◌∷◌, [], false, IfOk, IfSome, IfNone, OnOk};
-ghost use Rattle.sdb_record.specs.Groups.{IsLatest, grouped as grouped_lem, has_group, is_beside as is_beside_lem, placed};
+ghost use Rattle.std.specs.Prelude.{◌≡◌, ◌∷◌, ◌++◌, [], IfOk, OnOk};
+ghost use Rattle.std.specs.BTreeMap.{get};
+ghost use Rattle.sdb_types.specs.Order.{key_cmp};
+ghost use Rattle.sdb_record.specs.Groups.{HaveLatest, grouped as grouped_lem, partition_of as partition_of_lem, placed};
 
 use crate::write::{Write, Writes};
-use sdb_types::{Duplicate, Key, NoMemory, Seq};
+use sdb_types::{Duplicate, Key, NoMemory, Seq, Values};
 use std::alloc::Global;
+use std::collections::BTreeMap;
 
 /// How many writes a group has at most.
 const MOST: usize = 64;
@@ -12,29 +15,25 @@ const MOST: usize = 64;
 /// Writes in groups: each has from 1 to 64 writes, of one partition of one table.
 pub type Groups = Seq<Writes>;
 
-// The group is of the partition of a key.
-fn is_beside(group: &Writes, key: &Key) -> bool
-    ensures { result ≡ is_beside_lem key.now group.now }
+// The key of a partition: it has no clustering values.
+fn partition_of(alloc: Global, key: &Key) -> Result<Key, NoMemory>
+    ensures { IfOk result (λ partition. partition ≡ partition_of_lem key.now) }
 {
-    match group.first() {
-        Some(write) => write.key.is_beside(key),
-        None => false,
-    }
+    Ok(Key {
+        table: key.table.copy()?,
+        partition: key.partition.copy()?,
+        clustering: Values::new(alloc),
+    })
 }
 
-// Where the latest group of the partition of a key is.
-fn latest(groups: &[Writes], key: &Key) -> Option<usize>
-    ensures some { IfSome result (IsLatest key.now groups.now) }
-    ensures none { IfNone result (has_group key.now groups.now ≡ false) }
+// What a tree has at a key.
+fn index_of(places: &BTreeMap<Key, usize>, key: &Key) -> Option<usize>
+    ensures { result ≡ get key_cmp places.now key.now }
 {
-    let mut i = groups.len();
-    while i > 0 {
-        i -= 1;
-        if is_beside(&groups[i], key) {
-            return Some(i);
-        }
+    match places.get(key) {
+        Some(i) => Some(*i),
+        None => None,
     }
-    None
 }
 
 // A group of one write.
@@ -46,11 +45,36 @@ fn alone(alloc: Global, write: Write) -> Result<Writes, NoMemory>
     Ok(group)
 }
 
-// Puts a write into the latest group of its partition, or into a new one.
-fn place(groups: &mut Vec<Writes>, write: Write) -> Result<(), NoMemory>
-    ensures { OnOk result (groups.new.items ≡ placed write groups.old.items) }
+// Begins a group with a write.
+fn begin(
+    groups: &mut Vec<Writes>,
+    latest: &mut BTreeMap<Key, usize>,
+    partition: Key,
+    write: Write,
+) -> Result<(), NoMemory>
+    requires partition { partition ≡ partition_of_lem write.key }
+    requires latest { HaveLatest (get key_cmp latest.old) groups.old.items }
+    ensures groups { OnOk result (groups.new.items ≡ groups.old.items ++ (write ∷ []) ∷ []) }
+    ensures latest { OnOk result (HaveLatest (get key_cmp latest.new) groups.new.items) }
 {
-    match latest(groups, &write.key) {
+    let group = alone(*groups.allocator(), write)?;
+    latest.insert(partition, groups.len())?;
+    groups.push(group)?;
+    Ok(())
+}
+
+// Puts a write into the latest group of its partition, or into a new one.
+fn place(
+    groups: &mut Vec<Writes>,
+    latest: &mut BTreeMap<Key, usize>,
+    write: Write,
+) -> Result<(), NoMemory>
+    requires { HaveLatest (get key_cmp latest.old) groups.old.items }
+    ensures groups { OnOk result (groups.new.items ≡ placed write groups.old.items) }
+    ensures latest { OnOk result (HaveLatest (get key_cmp latest.new) groups.new.items) }
+{
+    let partition = partition_of(*groups.allocator(), &write.key)?;
+    match index_of(latest, &partition) {
         Some(i) => {
             if groups[i].len() < MOST {
                 return groups[i].push(write);
@@ -58,19 +82,18 @@ fn place(groups: &mut Vec<Writes>, write: Write) -> Result<(), NoMemory>
         }
         None => {}
     }
-    let group = alone(*groups.allocator(), write)?;
-    groups.push(group)?;
-    Ok(())
+    begin(groups, latest, partition, write)
 }
 
 /// The writes in groups: one after the other, a write joins the latest group of its table and partition where that has fewer than 64 writes,
-/// and otherwise begins a new group.
+/// and otherwise begins a new group. It takes time in the order of n log n for n writes, whatever their partitions are.
 pub fn grouped(writes: &Writes) -> Result<Groups, NoMemory>
     ensures { IfOk result (λ groups. groups ≡ grouped_lem writes.now) }
 {
     let mut groups = Vec::new(writes.allocator());
+    let mut latest = BTreeMap::new(writes.allocator());
     for write in writes.as_slice() {
-        place(&mut groups, write.copy()?)?;
+        place(&mut groups, &mut latest, write.copy()?)?;
     }
     Ok(Seq::from_vec(groups))
 }
