@@ -4,6 +4,7 @@ mod Sorting
 mod Places
 mod Sought
 mod Repeats
+mod Risen
 mod Narrow
 mod Laid
 mod Local

@@ -2,3 +2,4 @@ pub mod Types
 pub mod Plans
 pub mod Misfits
 pub mod Asked
+pub mod Risen

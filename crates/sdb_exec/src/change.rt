@@ -5,7 +5,7 @@ ghost use Rattle.sdb_schema.specs.Table.{rises};
 ghost use Rattle.sdb_model.specs.Rows.{at_kind as at_kind_lem, literal_at as literal_at_lem, order_names};
 ghost use Rattle.sdb_model.specs.Exec.{with_sets, with_named, literal_in, key_of};
 
-use crate::column::{columns_rise, kind_where};
+use crate::column::{columns_rise, kind_near};
 use crate::read::{fits_int, is_key_name, kind_of, value_beside};
 use sdb_model::Insert;
 use sdb_record::{Change, Changes, Image, Keyed};
@@ -29,17 +29,18 @@ pub fn literal_at(table: &Table, name: &Name, literal: &Value) -> Result<Value, 
     at_kind(kind_of(table, name), literal)
 }
 
-// The same, of a table whose columns may be in order.
-fn literal_where(
+// The same, of a table whose columns may be in order, and of a column that is looked for as `find_column_near` does.
+fn literal_near(
     table: &Table,
     rising: bool,
+    place: &mut usize,
     name: &Name,
     literal: &Value,
 ) -> Result<Value, NoMemory>
     requires { rising ≡ true → rises table.now.columns ≡ true }
     ensures { IfOk result (λ v. v ≡ literal_at_lem table.now name.now literal.now) }
 {
-    at_kind(kind_where(table, rising, name), literal)
+    at_kind(kind_near(table, rising, place, name), literal)
 }
 
 fn put_sets(
@@ -52,8 +53,9 @@ fn put_sets(
     ensures { IfOk result (λ after. after ≡ with_sets table.now sets.now columns) }
 {
     let mut columns = columns;
+    let mut place = 0;
     for pair in sets {
-        let value = literal_where(table, rising, &pair.name, &pair.value)?;
+        let value = literal_near(table, rising, &mut place, &pair.name, &pair.value)?;
         columns.set(pair.name.copy()?, value)?;
     }
     Ok(columns)
@@ -69,6 +71,7 @@ pub fn set_columns(table: &Table, sets: &[Pair], columns: Columns) -> Result<Col
 fn put_named(
     table: &Table,
     rising: bool,
+    place: &mut usize,
     names: &[Name],
     values: &[Value],
     columns: Columns,
@@ -80,9 +83,12 @@ fn put_named(
         (Some((name, ns)), Some((value, vs))) => {
             let mut columns = columns;
             if !is_key_name(table, name) {
-                columns.set(name.copy()?, literal_where(table, rising, name, value)?)?;
+                columns.set(
+                    name.copy()?,
+                    literal_near(table, rising, place, name, value)?,
+                )?;
             }
-            put_named(table, rising, ns, vs, columns)
+            put_named(table, rising, place, ns, vs, columns)
         }
         _ => Ok(columns),
     }
@@ -97,7 +103,7 @@ pub fn named_columns(
 ) -> Result<Columns, NoMemory>
     ensures { IfOk result (λ after. after ≡ with_named table.now names.now values.now columns) }
 {
-    put_named(table, columns_rise(table), names, values, columns)
+    put_named(table, columns_rise(table), &mut 0, names, values, columns)
 }
 
 fn literal_of(table: &Table, insert: &Insert, name: &Name) -> Result<Value, NoMemory>

@@ -4,7 +4,7 @@ ghost use Rattle.std.specs.Prelude.{◌≡◌, true};
 ghost use Rattle.sdb_schema.specs.Table.{rises, has_column as has_column_lem, kind_in};
 ghost use Rattle.sdb_model.specs.Rows.{kind_of_column};
 
-use sdb_schema::{Kind, Table, all_rise, find_column};
+use sdb_schema::{Kind, Table, all_rise, find_column, find_column_near};
 use sdb_types::Name;
 
 /// Whether a table's columns are in the order of their names.
@@ -22,12 +22,12 @@ pub fn has_column(table: &Table, name: &Name) -> bool
     find_column(table.columns.as_slice(), true, name).is_some()
 }
 
-/// The kind of a column, where the table has one of that name.
-pub fn find_kind(table: &Table, name: &Name) -> Option<Kind>
+/// The kind of a column, where the table has one of that name. It is looked for as `find_column_near` does.
+pub fn find_kind(table: &Table, place: &mut usize, name: &Name) -> Option<Kind>
     requires { rises table.now.columns ≡ true }
     ensures { result ≡ kind_in table.now.columns name.now }
 {
-    match find_column(table.columns.as_slice(), true, name) {
+    match find_column_near(table.columns.as_slice(), true, place, name) {
         Some(column) => Some(column.kind),
         None => None,
     }
@@ -47,6 +47,17 @@ pub fn kind_where(table: &Table, rising: bool, name: &Name) -> Kind
     ensures { result ≡ kind_of_column table.now name.now }
 {
     match find_column(table.columns.as_slice(), rising, name) {
+        Some(column) => column.kind,
+        None => Kind::Text,
+    }
+}
+
+/// The same, of a column that is looked for as `find_column_near` does.
+pub fn kind_near(table: &Table, rising: bool, place: &mut usize, name: &Name) -> Kind
+    requires { rising ≡ true → rises table.now.columns ≡ true }
+    ensures { result ≡ kind_of_column table.now name.now }
+{
+    match find_column_near(table.columns.as_slice(), rising, place, name) {
         Some(column) => column.kind,
         None => Kind::Text,
     }

@@ -1,5 +1,5 @@
 //! The columns that a statement mentions.
-ghost use Rattle.std.specs.Prelude.{◌≡◌, ◌++◌, IfOk, OnOk, map, unwrap_or, []};
+ghost use Rattle.std.specs.Prelude.{◌≡◌, ◌++◌, IfOk, OnOk, length, map, unwrap_or, []};
 ghost use Rattle.sdb_model.specs.Refused.{mention_of_name, mention_of_set, mention_of_test, listed as listed_lem, written as written_lem, mentions as mentions_lem};
 
 use sdb_model::{Mention, Mentions, Statement, Test};
@@ -62,8 +62,20 @@ fn of_sets(alloc: Global, sets: &[Pair]) -> Result<Mentions, NoMemory>
     Ok(found)
 }
 
-/// The mentions of the columns that an insert lists or SET names.
-pub fn written_in(alloc: Global, statement: &Statement) -> Result<Mentions, NoMemory>
+/// How many mentions there are of columns that an insert lists or SET names.
+pub fn written_count(statement: &Statement) -> usize
+    ensures { result ≡ length (written_lem statement.now) }
+{
+    match statement {
+        Statement::Insert(s) => s.columns.len(),
+        Statement::Upsert(s) => s.columns.len(),
+        Statement::Update(s) => s.sets.len(),
+        _ => 0,
+    }
+}
+
+// The mentions of the columns that an insert lists or SET names.
+fn written_in(alloc: Global, statement: &Statement) -> Result<Mentions, NoMemory>
     ensures { IfOk result (λ ms. ms ≡ written_lem statement.now) }
 {
     match statement {

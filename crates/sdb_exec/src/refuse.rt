@@ -8,10 +8,12 @@ ghost use Rattle.sdb_schema.specs.Table.{is_table, rises, key_names as key_names
 ghost use Rattle.sdb_model.specs.Rows.{same_name};
 ghost use Rattle.sdb_model.specs.Refused.{suits as suits_lem, is_within as is_within_lem, is_unknown as is_unknown_lem, names_key as names_key_lem, is_of_other_kind as is_of_other_kind_lem, is_null_in_key as is_null_in_key_lem, is_out_of_range as is_out_of_range_lem, is_too_long as is_too_long_lem, is_named_by, or_next, repeat_place, refusal, first_place, written as written_lem, mentions as mentions_lem, key_refusal, literal_refusal, missing_refusal, refusal_on};
 ghost use Rattle.sdb_exec.specs.Misfits.{is_misfit as is_misfit_lem, has_misfit as has_misfit_lem};
+ghost use Rattle.sdb_exec.specs.Risen.{starts_above as starts_above_lem, names_rise as names_rise_lem};
 
 use crate::column::{find_kind, has_column, kind_of_known};
 use crate::is_key_name;
-use crate::mention::{mentions_of, written_in};
+use crate::mention::{mentions_of, written_count};
+use crate::read::fits_int;
 use sdb_model::{Insert, Mention, Refusal, Statement};
 use sdb_schema::{Kind, Table};
 use sdb_types::{Duplicate, Name, Names, NoMemory, Seq, Value};
@@ -109,12 +111,53 @@ fn repeat_of_many(alloc: Global, mentions: &[Mention]) -> Result<Option<usize>, 
     Ok(None)
 }
 
+fn starts_above(name: &Name, mentions: &[Mention]) -> bool
+    ensures { result ≡ starts_above_lem name.now mentions.now }
+{
+    match mentions.first() {
+        Some(mention) => name.as_str().cmp(mention.name.as_str()).is_lt(),
+        None => true,
+    }
+}
+
+fn names_rise(mentions: &[Mention]) -> bool
+    ensures { result ≡ names_rise_lem mentions.now }
+{
+    let mut rest = mentions;
+    while let Some((mention, others)) = rest.split_first() {
+        if !starts_above(&mention.name, others) {
+            return false;
+        }
+        rest = others;
+    }
+    true
+}
+
+// Whether the mentions are seen to have each name once: few of them, each of which is compared with all that come after it, and then some
+// whose names rise.
+fn is_each_once(few: usize, mentions: &[Mention]) -> bool
+    ensures { result ≡ true → repeat_place [] mentions.now ≡ None }
+{
+    if names_rise(mentions) {
+        return true;
+    }
+    match mentions.split_first() {
+        Some((mention, rest)) => {
+            few > 0 && !names_column(rest, &mention.name) && is_each_once(few - 1, rest)
+        }
+        None => true,
+    }
+}
+
 // The index of the first mention whose column is mentioned before it.
 fn find_repeat(alloc: Global, mentions: &[Mention]) -> Result<Option<usize>, NoMemory>
     ensures { IfOk result (λ found. option_map (λ i. i + 1) found ≡ repeat_place [] mentions.now) }
 {
     if mentions.len() <= FEW {
         return Ok(repeat_of_few(mentions));
+    }
+    if is_each_once(FEW, mentions) {
+        return Ok(None);
     }
     repeat_of_many(alloc, mentions)
 }
@@ -178,11 +221,11 @@ fn find_other_kind(table: &Table, misfits: bool, mentions: &[Mention]) -> Option
 }
 
 // Whether the table lacks the column, or has it with another kind than the literal's: both by one look for the column.
-fn is_misfit(table: &Table, mention: &Mention) -> bool
+fn is_misfit(table: &Table, place: &mut usize, mention: &Mention) -> bool
     requires { rises table.now.columns ≡ true }
     ensures { result ≡ is_misfit_lem table.now mention.now }
 {
-    match find_kind(table, &mention.name) {
+    match find_kind(table, place, &mention.name) {
         Some(kind) => is_literal_of_other_kind(kind, &mention.literal),
         None => true,
     }
@@ -193,7 +236,13 @@ fn has_misfit(table: &Table, mentions: &[Mention]) -> bool
     requires { rises table.now.columns ≡ true }
     ensures { result ≡ has_misfit_lem table.now mentions.now }
 {
-    mentions.iter().any(|mention| is_misfit(table, mention))
+    let mut place = 0;
+    for mention in mentions {
+        if is_misfit(table, &mut place, mention) {
+            return true;
+        }
+    }
+    false
 }
 
 fn is_null(literal: &Option<Value>) -> bool
@@ -225,12 +274,13 @@ fn is_whole_within(kind: Kind, n: i64) -> bool
     }
 }
 
-// Only a number of 64 bits may be out of the range of its column.
+// Only a number of 64 bits may be out of the range of its column, and none of 32 bits is.
 fn is_out_of_range(table: &Table, mention: &Mention) -> bool
     requires { rises table.now.columns ≡ true }
     ensures { result ≡ is_out_of_range_lem table.now mention.now }
 {
     match &mention.literal {
+        Some(Value::BigInt(n)) if fits_int(*n) => false,
         Some(Value::BigInt(n)) => !is_whole_within(kind_of_known(table, &mention.name), *n),
         _ => false,
     }
@@ -361,20 +411,27 @@ fn missing_fault(table: &Table, keys: &[Name], statement: &Statement) -> Option<
     }
 }
 
+// The mentions of the columns that an insert lists or SET names: they come first.
+fn written_among<'a>(statement: &Statement, mentions: &'a [Mention]) -> &'a [Mention]
+    requires { mentions.now ≡ mentions_lem statement.now }
+    ensures { result.now ≡ written_lem statement.now }
+{
+    &mentions[..written_count(statement)]
+}
+
 fn first_fault(
     alloc: Global,
     table: &Table,
     keys: &[Name],
     statement: &Statement,
-    written: &[Mention],
     mentions: &[Mention],
 ) -> Result<Option<Fault>, NoMemory>
     requires columns { rises table.now.columns ≡ true }
     requires keys { keys.now ≡ key_names_lem table.now }
-    requires written { written.now ≡ written_lem statement.now }
     requires mentions { mentions.now ≡ mentions_lem statement.now }
     ensures { IfOk result (λ found. found ≡ refusal_on table.now statement.now) }
 {
+    let written = written_among(statement, mentions);
     let misfits = has_misfit(table, mentions);
     if let Some(found) = column_fault(alloc, table, misfits, written, mentions)? {
         return Ok(Some(found));
@@ -399,7 +456,6 @@ pub fn refusal_on_table(
     ensures { IfOk result (λ r. r ≡ refusal_on table.now statement.now) }
 {
     let keys = key_names(alloc, table)?;
-    let written = written_in(alloc, statement)?;
     let mentions = mentions_of(alloc, statement)?;
     if mentions.len() >= MOST {
         return Err(NoMemory);
@@ -409,7 +465,6 @@ pub fn refusal_on_table(
         table,
         keys.as_slice(),
         statement,
-        written.as_slice(),
         mentions.as_slice(),
     )?;
     match found {

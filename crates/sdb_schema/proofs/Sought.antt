@@ -1,11 +1,11 @@
 -- A column is found at its place, among columns in the order of their names.
-use Rattle.std.proofs.Common.{◌≡◌, ℕ, zero, suc, ◌<◌, ◌≤◌, List, [], ◌∷◌, true, false, None, refl, sym, ap, arith, length, drop, get_or}
+use Rattle.std.proofs.Common.{◌≡◌, ℕ, zero, suc, ◌<◌, ◌≤◌, List, [], ◌∷◌, true, false, cond, None, Some, refl, sym, subst, ap, ◌∙◌, arith, length, drop, get_or}
 use Rattle.std.specs.Prelude.{Bool, find}
 use Rattle.std.specs.List.Sorted.{IsPartitionPoint}
 use Rattle.std.specs.declared.cmp.Ordering.TheVariants.{Less, Greater}
 use Rattle.std.specs.Ordering.{is_lt}
 use Rattle.sdb_types.specs.Order.{name_cmp}
-use Rattle.sdb_types.proofs.Public.{and_first, and_second, by_order, less_of, name_total, turned}
+use Rattle.sdb_types.proofs.Public.{and_first, and_second, by_order, less_of, name_exact, name_total, turned}
 use Rattle.sdb_schema.specs.Table.{is_above_column, rises}
 use Rattle.sdb_record.specs.Names.{same_name}
 use Rattle.sdb_schema.specs.declared.table.Column.{Column}
@@ -67,3 +67,22 @@ found-at_place name (c ∷ cs) r =
     (λ q.
     let above : is_above_column name cs ≡ true = above_more name c cs (ap is_lt (turned c.name name Greater q)) (first_above c cs r) in
     simp q (sym (none_above name cs (tail_rises c cs r) above)))
+
+-- a column of the name, at whatever place
+pub found-near : (name : List ℕ) (cs : List Column) (n : ℕ) (c : Column) → rises cs ≡ true → first_named name (drop n cs) ≡ Some c → find (λ d. same_name d.name name) cs ≡ Some c
+found-near name [] zero c r h = absurd (cc)
+found-near name [] (suc n) c r h = absurd (cc)
+found-near name (d ∷ cs) zero c r h =
+    elim (same_name d.name name) as (λ b. cond b (Some d) None ≡ Some c → cond b (Some d) (find (λ e. same_name e.name name) cs) ≡ Some c) [
+      | true ↦ λ k. k
+      | false ↦ λ k. absurd (cc)
+    ] h
+found-near name (d ∷ cs) (suc n) c r h =
+    let rest = found-near name cs n c (tail_rises d cs r) h in
+    by_order (name_cmp d.name name)
+    (λ q. simp q rest)
+    (λ q.
+    let above : is_above_column name cs ≡ true = subst (λ x. is_above_column x cs ≡ true) (name_exact d.name name q) (first_above d cs r) in
+    let clash : None ≡ Some c = sym (none_above name cs (tail_rises d cs r) above) ∙ rest in
+    absurd (cc))
+    (λ q. simp q rest)

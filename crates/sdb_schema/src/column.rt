@@ -51,6 +51,30 @@ pub fn find_column<'a>(columns: &'a [Column], rising: bool, name: &Name) -> Opti
     }
 }
 
+/// The first column of a name. Of columns that are known to rise the one at a place is looked at first: where names are looked for in their
+/// order, each is found there. The place is then the one behind the column that was found.
+pub fn find_column_near<'a>(
+    columns: &'a [Column],
+    rising: bool,
+    place: &mut usize,
+    name: &Name,
+) -> Option<&'a Column>
+    requires { rising ≡ true → rises columns.now ≡ true }
+    ensures { option_copied result ≡ find (λ c. same_name c.name name.now) columns.now }
+{
+    if !rising {
+        return find_in_all(columns, name);
+    }
+    let here = *place;
+    if let Some(column) = named_at(columns, here, name) {
+        *place = here.saturating_add(1);
+        return Some(column);
+    }
+    let there = place_of(columns, name);
+    *place = there.saturating_add(1);
+    named_at(columns, there, name)
+}
+
 fn starts_above(columns: &[Column], name: &Name) -> bool
     ensures { result ≡ is_above_column name.now columns.now }
 {

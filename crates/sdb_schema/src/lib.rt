@@ -12,7 +12,7 @@ mod table;
 
 pub use added::ColumnRefused;
 pub use catalog::{AddRefused, Catalog};
-pub use column::{all_rise, find_column};
+pub use column::{all_rise, find_column, find_column_near};
 pub use make::TableRefused;
 pub use row::RowRefused;
 pub use table::{Column, ColumnList, Direction, Kind, Order, Orders, Table};

@@ -8,7 +8,7 @@ ghost use Rattle.sdb_schema.specs.declared.row.RowRefused.TheVariants.{NoMemory 
 ghost use Rattle.sdb_schema.specs.Table.{is_key_column, kind_in, key_names, order_names, rises};
 ghost use Rattle.sdb_schema.specs.Rows.{is_of_kind, is_in_range, is_of_column, is_value_of, are_values_of, null_in_key, wrong_type_among, out_of_range, row_refusal, is_stored_in, fits_table, RefusesRow};
 
-use crate::column::{all_rise, find_column};
+use crate::column::{all_rise, find_column_near};
 use crate::make::is_listed;
 use crate::table::{Column, Kind, Order, Table};
 use sdb_types::{Columns, Duplicate, Key, Name, NoMemory, Pair, Value};
@@ -62,19 +62,19 @@ fn is_in_its_range(value: &Value) -> bool
     }
 }
 
-// The kind of a column, or none where the table lacks it.
-fn kind_of(columns: &[Column], rising: bool, name: &Name) -> Option<Kind>
+// The kind of a column, or none where the table lacks it. The column is looked for as `find_column_near` does.
+fn kind_of(columns: &[Column], rising: bool, place: &mut usize, name: &Name) -> Option<Kind>
     requires { rising ≡ true → rises columns.now ≡ true }
     ensures { result ≡ kind_in columns.now name.now }
 {
-    find_column(columns, rising, name).map(|column| column.kind)
+    find_column_near(columns, rising, place, name).map(|column| column.kind)
 }
 
-fn suits(columns: &[Column], rising: bool, name: &Name, value: &Value) -> bool
+fn suits(columns: &[Column], rising: bool, place: &mut usize, name: &Name, value: &Value) -> bool
     requires { rising ≡ true → rises columns.now ≡ true }
     ensures { result ≡ is_of_column columns.now name.now value.now }
 {
-    match kind_of(columns, rising, name) {
+    match kind_of(columns, rising, place, name) {
         Some(kind) => has_kind(kind, value),
         None => false,
     }
@@ -120,7 +120,7 @@ fn find_wrong<'a>(columns: &[Column], row: &'a Columns) -> Option<&'a Name>
 {
     row.pairs()
         .iter()
-        .find(|pair| !suits(columns, false, &pair.name, &pair.value))
+        .find(|pair| !suits(columns, false, &mut 0, &pair.name, &pair.value))
         .map(|pair| &pair.name)
 }
 
@@ -133,19 +133,25 @@ fn find_outside(row: &Columns) -> Option<&Name>
         .map(|pair| &pair.name)
 }
 
-fn is_value(columns: &[Column], rising: bool, name: &Name, value: &Value) -> bool
+fn is_value(columns: &[Column], rising: bool, place: &mut usize, name: &Name, value: &Value) -> bool
     requires { rising ≡ true → rises columns.now ≡ true }
     ensures { result ≡ is_value_of columns.now name.now value.now }
 {
-    suits(columns, rising, name, value) && is_in_its_range(value)
+    suits(columns, rising, place, name, value) && is_in_its_range(value)
 }
 
-fn is_stored(table: &Table, rising: bool, pair: &Pair) -> bool
+fn is_stored(table: &Table, rising: bool, place: &mut usize, pair: &Pair) -> bool
     requires { rising ≡ true → rises table.now.columns ≡ true }
     ensures { result ≡ is_stored_in table.now pair.now }
 {
     !table.has_in_key(&pair.name)
-        && is_value(table.columns.as_slice(), rising, &pair.name, &pair.value)
+        && is_value(
+            table.columns.as_slice(),
+            rising,
+            place,
+            &pair.name,
+            &pair.value,
+        )
 }
 
 // Whether the columns of a row are found by their places: where there are many, and the table's columns rise.
@@ -159,7 +165,13 @@ fn all_stored(table: &Table, pairs: &[Pair]) -> bool
     ensures { result ≡ list_all (is_stored_in table.now) pairs.now }
 {
     let rising = uses_places(table, pairs);
-    pairs.iter().all(|pair| is_stored(table, rising, pair))
+    let mut place = 0;
+    for pair in pairs {
+        if !is_stored(table, rising, &mut place, pair) {
+            return false;
+        }
+    }
+    true
 }
 
 fn are_values(columns: &[Column], names: &[Name], values: &[Value]) -> bool
@@ -168,7 +180,7 @@ fn are_values(columns: &[Column], names: &[Name], values: &[Value]) -> bool
     match (names.split_first(), values.split_first()) {
         (None, None) => true,
         (Some((name, names)), Some((value, values))) => {
-            is_value(columns, false, name, value) && are_values(columns, names, values)
+            is_value(columns, false, &mut 0, name, value) && are_values(columns, names, values)
         }
         _ => false,
     }
@@ -180,7 +192,7 @@ fn are_ordered_values(columns: &[Column], orders: &[Order], values: &[Value]) ->
     match (orders.split_first(), values.split_first()) {
         (None, None) => true,
         (Some((order, orders)), Some((value, values))) => {
-            is_value(columns, false, &order.name, value)
+            is_value(columns, false, &mut 0, &order.name, value)
                 && are_ordered_values(columns, orders, values)
         }
         _ => false,
