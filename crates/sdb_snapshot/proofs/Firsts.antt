@@ -11,7 +11,7 @@ use Rattle.sdb_types.specs.declared.key.Key.{Key}
 use Rattle.sdb_types.specs.Order.{key_cmp, same_key}
 use Rattle.sdb_types.proofs.Public.{by_option, by_test, clash, none_some, one_more, or_else, same_key_exact, same_key_is, same_key_turned, some_is}
 use Rattle.sdb_snapshot.specs.Entries.{value_at, with_value}
-use Rattle.sdb_snapshot.specs.Places.{is_key_at, HaveFirstIndexes}
+use Rattle.sdb_snapshot.specs.Places.{is_key_at, HaveFirstIndexes, HaveIndexes}
 
 one_less : (n m : ℕ) → nat_lt (suc n) (suc m) ≡ nat_lt n m
 one_less n m =
@@ -90,6 +90,22 @@ module _ {X : Type 0} (p : X → Bool) where
   some_passes (x ∷ xs) (suc i) e h =
       by_test (p x) (λ t. none_some 0 (sym h ∙ at_head x xs t)) (λ f. some_passes xs i e (one_down (position p xs) (sym (past_head x xs f) ∙ h)))
 
+  -- an item that passes in a prefix is in the whole
+  pub passes_in_prefix : (xs : List X) (n i : ℕ) → option_map_or p (slice_get (take n xs) i) false ≡ true → option_map_or p (slice_get xs i) false ≡ true
+  passes_in_prefix [] zero i e = e
+  passes_in_prefix [] (suc n) i e = e
+  passes_in_prefix (x ∷ xs) zero i e = clash (sym e)
+  passes_in_prefix (x ∷ xs) (suc n) zero e = e
+  passes_in_prefix (x ∷ xs) (suc n) (suc i) e = passes_in_prefix xs n i e
+
+  -- one that passes with an item more is in the list, or is that item
+  pub passes_in_more : {C : Type 0} (xs : List X) (y : X) (i : ℕ) → option_map_or p (slice_get (xs ++ y ∷ []) i) false ≡ true
+      → (option_map_or p (slice_get xs i) false ≡ true → C) → (i ≡ length xs → p y ≡ true → C) → C
+  passes_in_more [] y zero e old last = last refl e
+  passes_in_more [] y (suc i) e old last = clash (sym e)
+  passes_in_more (x ∷ xs) y zero e old last = old e
+  passes_in_more (x ∷ xs) y (suc i) e old last = passes_in_more xs y i e old (λ at t. last (ap suc at) t)
+
 ---- entries
 
 module _ {K V : Type 0} (p : K → Bool) where
@@ -155,25 +171,29 @@ not_at keys index q i have at is =
     clash (sym (passes_there (same_key q) keys j e) ∙ ap (λ n. is_key_at keys n q) same ∙ is))
     (λ e. e)
 
-pub indexes_first : (keys : List Key) (index : Key → Option ℕ) (n : ℕ) → HaveFirstIndexes keys index → HaveFirstIndexes (take n keys) index
-indexes_first keys index n have q i e = have q i (first_of_prefix (same_key q) keys n i e)
+-- each key has the index of its first use where each has its index
+pub first_indexes : (keys : List Key) (index : Key → Option ℕ) → HaveIndexes keys index → HaveFirstIndexes keys index
+first_indexes keys index have q i e = have q i (passes_there (same_key q) keys i e)
 
-module _ (keys : List Key) (k : Key) (index next : Key → Option ℕ) (have : HaveFirstIndexes keys index) (new : position (same_key k) keys ≡ None) (is : (q : Key) → next q ≡ cond (same_key k q) (Some (length keys)) (index q)) where
+-- a key at a place has it
+pub here : (keys : List Key) (index : Key → Option ℕ) (q : Key) (i : ℕ) → HaveIndexes keys index → is_key_at keys i q ≡ true → position (same_key q) keys ≡ Some i
+here keys index q i have is = among_at keys index q i (first_indexes keys index have) (have q i is) is
+
+pub indexes_first : (keys : List Key) (index : Key → Option ℕ) (n : ℕ) → HaveIndexes keys index → HaveIndexes (take n keys) index
+indexes_first keys index n have q i e = have q i (passes_in_prefix (same_key q) keys n i e)
+
+module _ (keys : List Key) (k : Key) (index next : Key → Option ℕ) (have : HaveIndexes keys index) (new : position (same_key k) keys ≡ None) (is : (q : Key) → next q ≡ cond (same_key k q) (Some (length keys)) (index q)) where
   -- a key that is not put keeps no other from its index
-  pub indexes_kept : HaveFirstIndexes keys next
+  pub indexes_kept : HaveIndexes keys next
   indexes_kept q i e =
       by_test (same_key k q)
-      (λ t. none_some i (sym new ∙ ap (λ x. position (same_key x) keys) (same_key_exact k q t) ∙ e))
+      (λ t. absurd (some_passes (same_key q) keys i e (sym (ap (λ x. position (same_key x) keys) (same_key_exact k q t)) ∙ new)))
       (λ f. is q ∙ ap (λ b. cond b (Some (length keys)) (index q)) f ∙ have q i e)
 
-  pub indexes_more : HaveFirstIndexes (keys ++ k ∷ []) next
+  pub indexes_more : HaveIndexes (keys ++ k ∷ []) next
   indexes_more q i e =
-      by_option (position (same_key q) keys)
-      (λ j old. indexes_kept q j old ∙ sym (ap (λ o. or_else o (cond (same_key q k) (Some (length keys)) None)) old) ∙ sym (first_of_more (same_key q) keys k) ∙ e)
-      (λ none. let last : cond (same_key q k) (Some (length keys)) None ≡ Some i = sym (ap (λ o. or_else o (cond (same_key q k) (Some (length keys)) None)) none) ∙ sym (first_of_more (same_key q) keys k) ∙ e in
-      by_test (same_key q k)
-      (λ t. is q ∙ ap (λ b. cond b (Some (length keys)) (index q)) (same_key_turned k q ∙ t) ∙ sym (ap (λ b. cond b (Some (length keys)) None) t) ∙ last)
-      (λ f. none_some i (sym (ap (λ b. cond b (Some (length keys)) None) f) ∙ last)))
+      passes_in_more (same_key q) keys k i e (indexes_kept q i)
+      (λ at t. is q ∙ ap (λ b. cond b (Some (length keys)) (index q)) (same_key_turned k q ∙ t) ∙ ap Some (sym at))
 
 ---- a key at an index
 

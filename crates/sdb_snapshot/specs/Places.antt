@@ -17,6 +17,10 @@ is_key_at keys i key = option_map_or (same_key key) (slice_get keys i) false
 abbrev pub HaveFirstIndexes : List Key → (Key → Option ℕ) → Type 0
 HaveFirstIndexes keys index = (q : Key) (i : ℕ) → position (same_key q) keys ≡ Some i → index q ≡ Some i
 
+-- each of the keys has its index, so it has one
+abbrev pub HaveIndexes : List Key → (Key → Option ℕ) → Type 0
+HaveIndexes keys index = (q : Key) (i : ℕ) → is_key_at keys i q ≡ true → index q ≡ Some i
+
 ---- the keys of a span
 
 -- a key alone, as a record

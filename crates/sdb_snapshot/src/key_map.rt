@@ -44,13 +44,13 @@ impl<V> Model for KeyMap<V> {
     ghost use Rattle.std.specs.Map.{keys_of};
     ghost use Rattle.sdb_types.specs.declared.key.Key.{Key as KeyValue};
     ghost use Rattle.sdb_types.specs.Order.{key_cmp};
-    ghost use Rattle.sdb_snapshot.specs.Places.{HaveFirstIndexes};
+    ghost use Rattle.sdb_snapshot.specs.Places.{HaveIndexes};
 
     ghost Value = { List (KeyValue × V) };
 
     ghost view = { λ m. m.entries };
 
-    ghost invariant = { λ m. HaveFirstIndexes (keys_of m.entries) (get key_cmp m.places) };
+    ghost invariant = { λ m. HaveIndexes (keys_of m.entries) (get key_cmp m.places) };
 }
 
 // The keys of a span among those of a tree, as records without columns: they come together, from the span's least key on.
@@ -161,6 +161,32 @@ impl<V> KeyMap<V> {
             Some(i)
         } else {
             None
+        }
+    }
+
+    // The place of a key, which is looked for first at another place.
+    fn place_near(&self, i: usize, key: &Key) -> Option<usize>
+        ensures { result ≡ position (same_key key.now) (keys_of self.now) }
+    {
+        let _length = self.entries.len();
+        if self.is_key_at(i, key) {
+            Some(i)
+        } else {
+            self.place(key)
+        }
+    }
+
+    /// The value of a key, which is looked for first at the place `next`; `next` is then the place after the key's. So keys
+    /// that are asked for in the order of their places take a comparison each.
+    pub fn get_next(&self, next: &mut usize, key: &Key) -> Option<&V>
+        ensures { option_copied result ≡ value_at self.now key.now }
+    {
+        match self.place_near(*next, key) {
+            Some(i) => {
+                *next = i.saturating_add(1);
+                self.value_of(i)
+            }
+            None => None,
         }
     }
 

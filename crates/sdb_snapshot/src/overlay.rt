@@ -11,11 +11,16 @@ use sdb_record::{Image, Images};
 use sdb_types::{Columns, Duplicate, Key, NoMemory, Records};
 use std::alloc::Global;
 
-// The row of what was found at a key.
-fn row_noted(alloc: Global, read_set: &ReadSet, key: &Key) -> Result<Option<Columns>, NoMemory>
+// The row of what was found at a key, which is looked for first at the place `next`.
+fn row_noted(
+    alloc: Global,
+    read_set: &ReadSet,
+    next: &mut usize,
+    key: &Key,
+) -> Result<Option<Columns>, NoMemory>
     ensures { IfOk result (λ row. row ≡ row_found (base_at read_set.now key.now)) }
 {
-    match read_set.get(key) {
+    match read_set.get_next(next, key) {
         Some(found) => row_of_found(alloc, found),
         None => Ok(None),
     }
@@ -26,13 +31,14 @@ fn row_at(
     alloc: Global,
     read_set: &ReadSet,
     write_set: &WriteSet,
+    next: &mut usize,
     key: &Key,
 ) -> Result<Option<Columns>, NoMemory>
     ensures { IfOk result (λ row. row ≡ row_seen read_set.now write_set.now key.now) }
 {
     match write_set.get(key) {
         Some(write) => row_of_change(&write.change),
-        None => row_noted(alloc, read_set, key),
+        None => row_noted(alloc, read_set, next, key),
     }
 }
 
@@ -56,7 +62,8 @@ pub fn image_of_key(
     ensures { IfOk result (λ images. images ≡ images_with key.now (row_seen read_set.now write_set.now key.now)) }
 {
     let mut images = Images::new(alloc);
-    if let Some(columns) = row_at(alloc, read_set, write_set, key)? {
+    let mut next = 0;
+    if let Some(columns) = row_at(alloc, read_set, write_set, &mut next, key)? {
         images.push(Image {
             key: key.copy()?,
             columns,
@@ -65,7 +72,7 @@ pub fn image_of_key(
     Ok(images)
 }
 
-// Puts the image of each key's row last.
+// Puts the image of each key's row last. Keys of one scan come in the order in which they were read.
 fn put_images(
     alloc: Global,
     images: &mut Images,
@@ -75,8 +82,9 @@ fn put_images(
 ) -> Result<(), NoMemory>
     ensures { OnOk result (images.new ≡ images.old ++ images_at (row_seen read_set.now write_set.now) keys) }
 {
+    let mut next = 0;
     for rec in keys.into_vec() {
-        let row = row_at(alloc, read_set, write_set, &rec.key)?;
+        let row = row_at(alloc, read_set, write_set, &mut next, &rec.key)?;
         put_image(images, rec.into_key(), row)?;
     }
     Ok(())

@@ -47,6 +47,13 @@ impl ReadSet {
         self.found.get(key)
     }
 
+    /// What was found at a key, where it was read. It is looked for first at the place `next`, which is then the one after.
+    pub fn get_next(&self, next: &mut usize, key: &Key) -> Option<&Option<Record>>
+        ensures { option_copied result ≡ record_read_at self.now key.now }
+    {
+        self.found.get_next(next, key)
+    }
+
     /// What was found at a key: none where it has no record or was not read.
     pub fn base(&self, key: &Key) -> Result<Option<Record>, NoMemory>
         ensures { IfOk result (λ base. base ≡ base_at self.now key.now) }
