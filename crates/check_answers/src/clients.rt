@@ -6,11 +6,11 @@ ghost use Rattle.sdb_client.specs.Client.{IsIdle, client_pending};
 ghost use Rattle.sdb_client.specs.Execution.{AlterStep, AreFresh, AreQuiet, CallStep, LandStep, SomeActive, StopStep, flights_after, with_flights};
 ghost use Rattle.check_answers.specs.Steps.{IsStepUnder, IsTakenUnder};
 
-use crate::is_answered_alike;
+use crate::is_answered_so;
 use crate::replies::{can_answer, is_moment};
 use check_tables::{column_refusal, is_short_name};
 use sdb_client::{Client, ClientSlot, fresh_slots, gate_at, prove_order};
-use sdb_model::{Altered, Answer, Event, How, Script};
+use sdb_model::{Altered, Answer, Boxed, Event, How, Script};
 use sdb_schema::{Catalog, Kind};
 use sdb_types::{Duplicate, Name, NoMemory, Reply, Request, TableName, Txt, same};
 use std::alloc::Global;
@@ -137,7 +137,7 @@ impl Clients {
         catalog: &Catalog,
         client: u32,
         text: &Txt,
-        answer: &Option<Answer>,
+        answer: &Option<Boxed<Answer>>,
     ) -> bool
         ensures { result ≡ true → IsTakenUnder script.now catalog.now self.old client text.now answer.now self.new }
     {
@@ -161,7 +161,7 @@ impl Clients {
             .take(catalog, text, gate, fresh, self.clock);
         let _begun = client_slot.client.begun();
         client_slot.accepted = accepted;
-        is_answered_alike(&answered, answer)
+        is_answered_so(&answered, answer)
     }
 
     // A client takes the reply to the call that it has pending, which is answered so.
@@ -170,7 +170,7 @@ impl Clients {
         client: u32,
         request: &Request,
         reply: Reply,
-        answer: &Option<Answer>,
+        answer: &Option<Boxed<Answer>>,
     ) -> bool
         ensures { result ≡ true → CallStep self.old client request.now How.Seen reply answer.now self.new }
     {
@@ -183,7 +183,7 @@ impl Clients {
         }
         prove_order(&reply);
         let answered = client_slot.client.advance(reply, self.clock);
-        is_answered_alike(&answered, answer)
+        is_answered_so(&answered, answer)
     }
 
     // A call is made, or discarded, or goes into flight.
@@ -205,7 +205,7 @@ impl Clients {
         request: &Request,
         how: How,
         reply: Reply,
-        answer: &Option<Answer>,
+        answer: &Option<Boxed<Answer>>,
     ) -> Result<bool, NoMemory>
         ensures { IfOk result (λ so. so ≡ true → CallStep self.old client request.now how reply answer.now self.new) }
     {
@@ -308,13 +308,13 @@ impl Clients {
                 self.alter(catalog, table, column, *kind, *altered)
             }
             Event::Call(client, _, request, how, reply, answer) => {
-                self.call(*client, request, *how, reply.copy()?, answer)
+                self.call(*client, request.get(), *how, reply.get().copy()?, answer)
             }
             Event::Stop(client) => Ok(self.stop(*client)),
             Event::Clock(moment) => Ok(self.tick(*moment)),
             Event::Idle(_) => Ok(true),
             Event::Land(number, _, request, how, reply) => {
-                Ok(self.land(*number, request, *how, reply))
+                Ok(self.land(*number, request.get(), *how, reply.get()))
             }
         }
     }

@@ -35,6 +35,6 @@ pub use caused::{answers_have_causes, has_cause};
 pub use commit::is_commit_of;
 pub use executed::is_execution;
 pub use reading::statement_in;
-pub use same::{is_answered_alike, is_same_executed};
+pub use same::{is_answered_alike, is_answered_so, is_same_executed};
 pub use stores::{Shelves, StoreContents, Stores};
 pub use turned::turned_away;

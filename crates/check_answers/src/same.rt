@@ -7,7 +7,7 @@ ghost use Rattle.check_answers.specs.Tests.{answered_alike, same_answer, same_fo
 
 use check_protocol::is_same_record;
 use sdb_contents::Executed;
-use sdb_model::Answer;
+use sdb_model::{Answer, Boxed};
 use sdb_types::{Record, Txt};
 
 /// Whether two answers are equal.
@@ -34,6 +34,25 @@ pub fn is_answered_alike(a: &Option<Answer>, b: &Option<Answer>) -> bool
     ensures same { IsTrue result ↔ (a.now ≡ b.now) }
 {
     are_alike(a, b)
+}
+
+// The same of an answer and one that an event gives.
+fn are_alike_in(a: &Option<Answer>, b: &Option<Boxed<Answer>>) -> bool
+    ensures { result ≡ answered_alike a.now b.now }
+{
+    match (a, b) {
+        (Some(a), Some(b)) => is_same_answer(a, b.get()),
+        (None, None) => true,
+        _ => false,
+    }
+}
+
+/// Whether an event gives this answer, or gives none where this is none.
+pub fn is_answered_so(a: &Option<Answer>, b: &Option<Boxed<Answer>>) -> bool
+    ensures alike { result ≡ answered_alike a.now b.now }
+    ensures same { IsTrue result ↔ (a.now ≡ b.now) }
+{
+    are_alike_in(a, b)
 }
 
 fn is_same_text(a: &Txt, b: &Txt) -> bool

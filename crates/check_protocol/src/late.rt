@@ -11,7 +11,9 @@ fn delays(event: &Event, request: &Request) -> bool
     ensures { result ≡ delays_lem request.now event.now }
 {
     match event {
-        Event::Call(_, _, asked, How::Delayed, Reply::Fault, _) => is_same_request(asked, request),
+        Event::Call(_, _, asked, How::Delayed, reply, _) => {
+            matches!(reply.get(), Reply::Fault) && is_same_request(asked.get(), request)
+        }
         _ => false,
     }
 }

@@ -64,7 +64,7 @@ fn may_occur(
     ensures { IfOk result (λ well. well ≡ occurs_well found_in.now past.now plans.now event.now action.now) }
 {
     match event {
-        Event::Land(_, _, request, _, _) => Ok(was_delayed(past, request, action)),
+        Event::Land(_, _, request, _, _) => Ok(was_delayed(past, request.get(), action)),
         _ => is_enabled(alloc, found_in, past, plans, event, action),
     }
 }

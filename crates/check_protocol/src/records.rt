@@ -85,7 +85,7 @@ fn add_event(found: &mut Records, event: &Event) -> Result<(), NoMemory>
     ensures { OnOk result (found.new ≡ with_event event.now found.old) }
 {
     match event {
-        Event::Call(_, _, _, _, reply, _) => add_reply(found, reply),
+        Event::Call(_, _, _, _, reply, _) => add_reply(found, reply.get()),
         _ => Ok(()),
     }
 }

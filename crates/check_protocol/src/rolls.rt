@@ -18,7 +18,7 @@ use crate::{
     is_met_once, is_prepared_by, is_risked, is_same_key, is_won, moment_of, moments,
     observes_abort, observes_bad_row, observes_commit, settles_removed, write_of, writes_of,
 };
-use sdb_model::{Answer, Event};
+use sdb_model::{Answer, Boxed, Event};
 use sdb_record::{Decision, coordinator_key};
 use sdb_types::{Condition, Key, NoMemory, Put, Record, Request, Seq, State, TxId};
 use std::alloc::Global;
@@ -273,7 +273,7 @@ pub fn may_roll_forward(
             if !are_some(keys) {
                 return Ok(false);
             }
-            match puts_asked(alloc, request)? {
+            match puts_asked(alloc, request.get())? {
                 None => Ok(false),
                 Some(puts) => {
                     roll_together(alloc, observed, past, plans, id, keys, puts.as_slice())
@@ -362,7 +362,7 @@ pub fn may_roll_back(
                 return Ok(false);
             }
             let own = own(alloc, past, plans, id, key)?;
-            Ok(undoes(observed, &own, request, id, key))
+            Ok(undoes(observed, &own, request.get(), id, key))
         }
         _ => Ok(false),
     }
@@ -412,16 +412,28 @@ pub fn may_remove(
     ensures { IfOk result (λ well. well ≡ removes_well observed.now past.now event.now key.now id.0) }
 {
     match event {
-        Event::Call(_, _, Request::DeleteIf(at, condition), _, _, _) => {
-            if !is_same_key(at, key) || !removes_version(*condition, id) {
-                return Ok(false);
+        Event::Call(_, _, request, _, _, _) => match request.get() {
+            Request::DeleteIf(at, condition) => {
+                if !is_same_key(at, key) || !removes_version(*condition, id) {
+                    return Ok(false);
+                }
+                if !is_data(key) || !are_shut(past) {
+                    return Ok(false);
+                }
+                settles_removed(alloc, observed, key, id)
             }
-            if !is_data(key) || !are_shut(past) {
-                return Ok(false);
-            }
-            settles_removed(alloc, observed, key, id)
-        }
+            _ => Ok(false),
+        },
         _ => Ok(false),
+    }
+}
+
+fn given(answer: &Option<Boxed<Answer>>) -> Option<&Answer>
+    ensures { option_copied result ≡ answer.now }
+{
+    match answer {
+        Some(answer) => Some(answer.get()),
+        None => None,
     }
 }
 
@@ -429,8 +441,8 @@ fn answer_of(event: &Event) -> Option<&Answer>
     ensures { option_copied result ≡ answer_of_lem event.now }
 {
     match event {
-        Event::Take(_, _, answer) => answer.as_ref(),
-        Event::Call(_, _, _, _, _, answer) => answer.as_ref(),
+        Event::Take(_, _, answer) => given(answer),
+        Event::Call(_, _, _, _, _, answer) => given(answer),
         Event::Stop(_) => None,
         Event::Clock(_) => None,
         Event::Idle(_) => None,

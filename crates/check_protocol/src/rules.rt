@@ -23,7 +23,7 @@ use crate::{
     is_same_request, is_same_span, is_stopped, items_of, moment_of, owner, record_among,
     version_among, version_read, write_of, writes_of,
 };
-use sdb_model::{Answer, Event, Keyword};
+use sdb_model::{Answer, Boxed, Event, Keyword};
 use sdb_record::{
     Decision, Read, Scan, Write, condition_of, coordinator_row, has_version, is_same_version,
     version_of,
@@ -46,10 +46,13 @@ fn reads(alloc: Global, text: &Txt, word: Keyword) -> Result<bool, NoMemory>
     reads_word(alloc, text.as_str().as_bytes(), word)
 }
 
-fn is_done(answer: &Option<Answer>) -> bool
+fn is_done(answer: &Option<Boxed<Answer>>) -> bool
     ensures { result ≡ is_done_lem answer.now }
 {
-    matches!(answer, Some(Answer::Done))
+    match answer {
+        Some(answer) => matches!(answer.get(), Answer::Done),
+        None => false,
+    }
 }
 
 // An id has 128 bits.
@@ -216,7 +219,7 @@ pub fn may_prepare(
 {
     match event {
         Event::Call(client, _, request, _, reply, _) => {
-            if !in_commit(past, *client, id) || !fits_reply(word, reply) {
+            if !in_commit(past, *client, id) || !fits_reply(word, reply.get()) {
                 return Ok(false);
             }
             if is_past_prepares(past, id) || !are_new(past, id, keys) {
@@ -225,7 +228,7 @@ pub fn may_prepare(
             if !are_some(keys) {
                 return Ok(false);
             }
-            match puts_asked(alloc, request)? {
+            match puts_asked(alloc, request.get())? {
                 None => Ok(false),
                 Some(puts) => put_writes(
                     alloc,
@@ -328,7 +331,13 @@ pub fn may_check(past: &[Labelled], plans: &[Plan], event: &Event, id: TxId, i: 
         Event::Call(client, _, request, _, reply, _) => {
             in_commit(past, *client, id)
                 && (!is_deciding(past, id)
-                    && finds(items_of(plans, id), i, writes_of(plans, id), request, reply))
+                    && finds(
+                        items_of(plans, id),
+                        i,
+                        writes_of(plans, id),
+                        request.get(),
+                        reply.get(),
+                    ))
         }
         _ => false,
     }
@@ -438,12 +447,12 @@ pub fn may_decide(
 {
     match event {
         Event::Call(client, _, request, _, reply, _) => {
-            if !in_commit(past, *client, id) || !fits_reply(word, reply) {
+            if !in_commit(past, *client, id) || !fits_reply(word, reply.get()) {
                 return Ok(false);
             }
             if !puts_row(
                 alloc,
-                request,
+                request.get(),
                 id,
                 Decision::Committed,
                 moment_of(plans, id),
@@ -468,13 +477,13 @@ pub fn may_abort(
 {
     match event {
         Event::Call(_, _, request, _, reply, _) => {
-            if !fits_reply(word, reply) || !is_moment(moment) {
+            if !fits_reply(word, reply.get()) || !is_moment(moment) {
                 return Ok(false);
             }
             if !fits(id) {
                 return Ok(false);
             }
-            puts_row(alloc, request, id, Decision::Aborted, moment)
+            puts_row(alloc, request.get(), id, Decision::Aborted, moment)
         }
         _ => Ok(false),
     }
@@ -495,11 +504,13 @@ pub fn is_quiet(event: &Event) -> bool
 {
     match event {
         Event::Take(_, _, _) => true,
-        Event::Call(_, _, Request::Get(_), _, _, _) => true,
-        Event::Call(_, _, Request::Scan(_), _, _, _) => true,
-        Event::Call(_, _, Request::PutIf(_, _), _, _, _) => false,
-        Event::Call(_, _, Request::DeleteIf(_, _), _, _, _) => false,
-        Event::Call(_, _, Request::PutAll(_), _, _, _) => false,
+        Event::Call(_, _, request, _, _, _) => match request.get() {
+            Request::Get(_) => true,
+            Request::Scan(_) => true,
+            Request::PutIf(_, _) => false,
+            Request::DeleteIf(_, _) => false,
+            Request::PutAll(_) => false,
+        },
         Event::Stop(_) => false,
         Event::Clock(_) => true,
         Event::Idle(_) => true,

@@ -45,9 +45,9 @@ fn made_by(client: u64, number: u64, event: &Event) -> Result<Option<Made>, NoMe
             Ok(Some(Made {
                 at: number,
                 store: store.copy()?,
-                request: request.copy()?,
+                request: request.get().copy()?,
                 how: *how,
-                reply: reply.copy()?,
+                reply: reply.get().copy()?,
             }))
         }
         _ => Ok(None),

@@ -45,7 +45,9 @@ fn is_applied_prepare(event: &Event, id: TxId) -> bool
     ensures { result ≡ is_prepared_by id event.now }
 {
     match event {
-        Event::Call(_, _, request, How::Seen, Reply::Applied, _) => is_prepare(request, id),
+        Event::Call(_, _, request, How::Seen, reply, _) => {
+            matches!(reply.get(), Reply::Applied) && is_prepare(request.get(), id)
+        }
         _ => false,
     }
 }

@@ -6,7 +6,7 @@ ghost use Rattle.sdb_types.specs.Fits.{record_fits};
 ghost use Rattle.sdb_model.specs.Plain.{IsPlainPoint, altered_is_plain, condition_is_plain, id_is_plain, put_is_plain, refusal_is_plain, reply_is_plain, request_is_plain, span_is_plain, table_is_plain, values_are_plain};
 ghost use Rattle.law_runs.specs.Facts.{answer_fits, dump_fits, event_fits, given_fits, outcome_fits};
 
-use sdb_model::{Altered, Answer, Event, Outcome, Point, Refusal, TableDump};
+use sdb_model::{Altered, Answer, Boxed, Event, Outcome, Point, Refusal, TableDump};
 use sdb_types::{
     Condition, Put, Record, Reply, Request, Span, TxId, Txt, Values, key_facts, name_facts,
     record_facts, table_facts, values_facts,
@@ -157,11 +157,11 @@ fn answer_facts(answer: &Answer)
     }
 }
 
-fn given_facts(given: &Option<Answer>)
+fn given_facts(given: &Option<Boxed<Answer>>)
     ensures { given_fits given.now }
 {
     if let Some(answer) = given {
-        answer_facts(answer);
+        answer_facts(answer.get());
     }
 }
 
@@ -194,8 +194,8 @@ fn event_facts(event: &Event)
         Event::Call(client, store, request, _, reply, given) => {
             let _client = *client;
             name_facts(store);
-            request_facts(request);
-            reply_facts(reply);
+            request_facts(request.get());
+            reply_facts(reply.get());
             given_facts(given);
         }
         Event::Stop(client) | Event::Idle(client) => {
@@ -212,8 +212,8 @@ fn event_facts(event: &Event)
         Event::Land(number, store, request, _, reply) => {
             let _number = *number;
             name_facts(store);
-            request_facts(request);
-            reply_facts(reply);
+            request_facts(request.get());
+            reply_facts(reply.get());
         }
     }
 }

@@ -7,7 +7,7 @@ ghost use Rattle.sdb_types.specs.declared.value.Value.TheVariants as value;
 ghost use Rattle.sdb_model.specs.Transactions.{is_committed_answer};
 ghost use Rattle.sdb_bench.specs.Counts.{bench_text_of, count_line, counts_text, differ as differ_lem, is_at as is_at_lem, is_call as is_call_lem, is_commit as is_commit_lem, is_uneven as is_uneven_lem, is_writer as is_writer_lem, same_found as same_found_lem, uneven_in as uneven_in_lem, uneven_of};
 
-use sdb_model::{Answer, Event, Outcome, TableDump, put_number};
+use sdb_model::{Answer, Boxed, Event, Outcome, TableDump, put_number};
 use sdb_types::{NoMemory, Value, Values};
 use std::alloc::Global;
 
@@ -19,12 +19,12 @@ fn is_writer(client: u32) -> bool
     2 <= client && client <= 9
 }
 
-fn is_committed(answer: &Option<Answer>) -> bool
+fn is_committed(answer: &Option<Boxed<Answer>>) -> bool
     ensures { result ≡ is_committed_answer answer.now }
 {
     match answer {
-        Some(Answer::Committed) => true,
-        _ => false,
+        Some(answer) => matches!(answer.get(), Answer::Committed),
+        None => false,
     }
 }
 

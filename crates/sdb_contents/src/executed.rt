@@ -4,7 +4,7 @@ ghost use Rattle.sdb_model.specs.Sql.{reads_commit as reads_commit_lem, reads_wo
 ghost use Rattle.sdb_model.specs.Transactions.{statements_by as statements_by_lem, with_answer, statements_after, begins as begins_lem, ends as ends_lem, is_done as is_done_lem, is_conflict as is_conflict_lem};
 ghost use Rattle.sdb_contents.specs.Commits.{executed_of, all_executed};
 
-use sdb_model::{Answer, Event, Keyword};
+use sdb_model::{Answer, Boxed, Event, Keyword};
 use sdb_sqltext::{reads_commit, reads_word};
 use sdb_types::{Duplicate, NoMemory, Seq, Txt};
 use std::alloc::Global;
@@ -56,6 +56,16 @@ fn answer_last(executed: &mut Seq<Executed>, number: u64, answer: &Answer) -> Re
     Ok(())
 }
 
+// The answer that an event gives.
+fn given(answer: &Option<Boxed<Answer>>) -> Result<Option<Answer>, NoMemory>
+    ensures { IfOk result (λ given. given ≡ answer.now) }
+{
+    match answer {
+        Some(answer) => Ok(Some(answer.get().copy()?)),
+        None => Ok(None),
+    }
+}
+
 // Adds what an event does to a client's statements.
 fn add_prepare(
     executed: &mut Seq<Executed>,
@@ -71,7 +81,7 @@ fn add_prepare(
                 executed.push(Executed {
                     accepted: number,
                     text: text.copy()?,
-                    answer: answer.copy()?,
+                    answer: given(answer)?,
                     reached: number,
                 })?;
             }
@@ -79,7 +89,7 @@ fn add_prepare(
         }
         Event::Call(caller, _, _, _, _, Some(answer)) => {
             if u64::from(*caller) == client {
-                answer_last(executed, number, answer)?;
+                answer_last(executed, number, answer.get())?;
             }
             Ok(())
         }

@@ -94,9 +94,10 @@ fn add_prepare(found: &mut BTreeMap<u128, u64>, number: u64, event: &Event) -> R
     ensures { OnOk result ((id : TxId) → id.0 < 2 ^ 128 → get nat_cmp found.new id.0 ≡ (if is_prepared_by id event.now then Some number else get nat_cmp found.old id.0)) }
 {
     match event {
-        Event::Call(_, _, request, How::Seen, Reply::Applied, _) => {
-            add_request(found, number, request)
-        }
+        Event::Call(_, _, request, How::Seen, reply, _) => match reply.get() {
+            Reply::Applied => add_request(found, number, request.get()),
+            _ => Ok(()),
+        },
         _ => Ok(()),
     }
 }

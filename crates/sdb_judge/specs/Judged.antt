@@ -23,7 +23,7 @@ use Rattle.sdb_judge.specs.declared.refused.JudgeRefused.TheVariants.{NoScript, 
 
 -- the stores that the program attaches, in their order
 abbrev pub own_stores : List (List ℕ)
-own_stores = codes "ordered" ∷ codes "hashed" ∷ codes "sqlite" ∷ []
+own_stores = codes "ordered" ∷ codes "hashed" ∷ codes "sqlite" ∷ codes "sharded" ∷ []
 
 -- What is promised of events whatever the stores reply: they are an execution of the script's clients, each answer has its cause, calls are
 -- counted, and unresolved records were rolled before an answer.

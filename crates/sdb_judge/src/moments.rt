@@ -150,10 +150,26 @@ fn shelves_after(
 ) -> Result<Option<Shelves>, NoMemory> {
     match event {
         Event::Call(_, store, request, how, reply, _) => {
-            called(alloc, places, before, store, request, *how, reply)
+            called(
+                alloc,
+                places,
+                before,
+                store,
+                request.get(),
+                *how,
+                reply.get(),
+            )
         }
         Event::Land(_, store, request, how, reply) => {
-            called(alloc, places, before, store, request, *how, reply)
+            called(
+                alloc,
+                places,
+                before,
+                store,
+                request.get(),
+                *how,
+                reply.get(),
+            )
         }
         _ => Ok(Some(contents_copied(alloc, before)?)),
     }

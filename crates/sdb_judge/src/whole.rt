@@ -38,6 +38,7 @@ fn store_names(alloc: Global) -> Result<Names, NoMemory>
     names.push(named(alloc, "ordered")?)?;
     names.push(named(alloc, "hashed")?)?;
     names.push(named(alloc, "sqlite")?)?;
+    names.push(named(alloc, "sharded")?)?;
     Ok(names)
 }
 

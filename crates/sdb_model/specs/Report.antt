@@ -148,5 +148,13 @@ order_text_of ps = heading (codes "order") (length ps) ++ flat_map point_line ps
 abbrev pub tables_text_of : List TableDump → List ℕ
 tables_text_of ts = heading (codes "tables") (length ts) ++ flat_map table_lines ts
 
+-- what a report of these events begins with, before their lines
+abbrev pub report_start_of : List Event → List ℕ
+report_start_of es = codes "scalardb report 1\n" ++ heading (codes "events") (length es)
+
+-- what it has behind the lines of its events
+abbrev pub report_end_of : Outcome → List ℕ
+report_end_of o = order_text_of o.order ++ tables_text_of o.tables ++ codes "end\n"
+
 abbrev pub report_text_of : Outcome → List ℕ
 report_text_of o = codes "scalardb report 1\n" ++ events_text_of o.events ++ order_text_of o.order ++ tables_text_of o.tables ++ codes "end\n"

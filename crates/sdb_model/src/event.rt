@@ -2,8 +2,10 @@
 ghost use Rattle.std.specs.Prelude.{◌≡◌, IfOk};
 
 use crate::answer::{Answer, Rows};
+use crate::boxed::Boxed;
 use sdb_schema::Kind;
 use sdb_types::{Duplicate, Name, NoMemory, Reply, Request, Seq, TableName, TxId, Txt};
+use std::alloc::Global;
 
 /// What became of a call and its reply.
 #[derive(Clone, Copy, Debug, PartialEq, Eq)]
@@ -36,9 +38,9 @@ pub enum Altered {
 #[derive(Debug, PartialEq, Eq)]
 pub enum Event {
     /// A client takes a statement, answered at once or not.
-    Take(u32, Txt, Option<Answer>),
+    Take(u32, Txt, Option<Boxed<Answer>>),
     /// A client makes a call on the store of this name and digests the reply. An answer ends its statement.
-    Call(u32, Name, Request, How, Reply, Option<Answer>),
+    Call(u32, Name, Boxed<Request>, How, Boxed<Reply>, Option<Boxed<Answer>>),
     /// A client stops for good.
     Stop(u32),
     /// The clock shows this moment, in milliseconds.
@@ -46,7 +48,7 @@ pub enum Event {
     /// A client that is stopped, or has nothing to do, was to take a step. Of client 0: a request was to land that isn't in flight.
     Idle(u32),
     /// The request of the delayed call of this number, from 1, takes effect on the store of this name. Nobody gets the reply.
-    Land(u32, Name, Request, How, Reply),
+    Land(u32, Name, Boxed<Request>, How, Boxed<Reply>),
     /// A column of this name and kind is to be added to a table.
     Alter(TableName, Name, Kind, Altered),
 }
@@ -63,6 +65,54 @@ impl Drop for Event {
             Event::Land(_, _, _, _, _) => {}
             Event::Alter(_, _, _, _) => {}
         }
+    }
+}
+
+impl Event {
+    /// A client takes a statement.
+    pub fn take(
+        alloc: Global,
+        client: u32,
+        text: Txt,
+        answer: Option<Answer>,
+    ) -> Result<Event, NoMemory>
+        ensures { IfOk result (λ e. e ≡ Event.Take client text answer) }
+    {
+        Ok(Event::Take(client, text, Boxed::option(alloc, answer)?))
+    }
+
+    /// A client makes a call and digests the reply.
+    pub fn call(
+        alloc: Global,
+        client: u32,
+        store: Name,
+        request: Request,
+        how: How,
+        reply: Reply,
+        answer: Option<Answer>,
+    ) -> Result<Event, NoMemory>
+        ensures { IfOk result (λ e. e ≡ Event.Call client store request how reply answer) }
+    {
+        let request = Boxed::new(alloc, request)?;
+        let reply = Boxed::new(alloc, reply)?;
+        let answer = Boxed::option(alloc, answer)?;
+        Ok(Event::Call(client, store, request, how, reply, answer))
+    }
+
+    /// A late request takes effect.
+    pub fn land(
+        alloc: Global,
+        number: u32,
+        store: Name,
+        request: Request,
+        how: How,
+        reply: Reply,
+    ) -> Result<Event, NoMemory>
+        ensures { IfOk result (λ e. e ≡ Event.Land number store request how reply) }
+    {
+        let request = Boxed::new(alloc, request)?;
+        let reply = Boxed::new(alloc, reply)?;
+        Ok(Event::Land(number, store, request, how, reply))
     }
 }
 

@@ -2,6 +2,7 @@
 #![tactic(auto)]
 
 mod answer;
+mod boxed;
 mod event;
 mod report;
 mod script;
@@ -10,8 +11,9 @@ mod text;
 mod token;
 
 pub use answer::{Answer, Refusal, Rows};
+pub use boxed::Boxed;
 pub use event::{Altered, Event, Events, How, Outcome, Point, Points, TableDump, TableRows};
-pub use report::{put_alter, report_text};
+pub use report::{put_alter, put_event_line, put_report_end, put_report_start, report_text};
 pub use script::{Act, Clients, Move, Moves, Place, Places, Script, ScriptClient, Texts, Which};
 pub use statement::{
     Comparison, Delete, Insert, Mention, Mentions, Select, Sets, Statement, Test, Tests, Update,

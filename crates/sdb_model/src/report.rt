@@ -2,22 +2,24 @@
 ghost use Rattle.std.specs.Prelude.{◌≡◌, ◌++◌, OnOk, IfOk, decimal};
 ghost use Rattle.std.specs.List.{flat_map};
 ghost use Rattle.std.specs.String.{string_bytes};
-ghost use Rattle.sdb_model.specs.Report.{given_text_of, condition_text_of, put_text_of, puts_text_of, request_text_of, how_text_of, found_text_of, records_text_of, reply_text_of, take_text_of, asked_text_of, came_text_of, effect_text_of, landed_text_of, altered_text_of, alter_text_of, event_text_of, event_line, event_lines, point_line, row_line, table_lines, heading, events_text_of, order_text_of, tables_text_of, report_text_of};
+ghost use Rattle.sdb_model.specs.Report.{given_text_of, condition_text_of, put_text_of, puts_text_of, request_text_of, how_text_of, found_text_of, records_text_of, reply_text_of, take_text_of, asked_text_of, came_text_of, effect_text_of, landed_text_of, altered_text_of, alter_text_of, event_text_of, event_line, event_lines, point_line, row_line, table_lines, heading, order_text_of, tables_text_of, report_start_of, report_end_of, report_text_of};
 
 use crate::text::{
     put_answer, put_id, put_key, put_number, put_record, put_row, put_signed, put_span, put_table,
 };
-use crate::{Altered, Answer, Event, Events, How, Outcome, Point, Points, TableDump, TableRows};
+use crate::{
+    Altered, Answer, Boxed, Event, Events, How, Outcome, Point, Points, TableDump, TableRows,
+};
 use sdb_schema::Kind;
 use sdb_types::{Condition, Name, NoMemory, Put, Record, Reply, Request, TableName, Txt, Values};
 use std::alloc::Global;
 
 /// Adds an answer's text, or `-` where there is none.
-fn put_given(out: &mut String, given: &Option<Answer>) -> Result<(), NoMemory>
+fn put_given(out: &mut String, given: &Option<Boxed<Answer>>) -> Result<(), NoMemory>
     ensures { OnOk result (string_bytes out.new ≡ string_bytes out.old ++ given_text_of given.now) }
 {
     match given {
-        Some(answer) => put_answer(out, answer)?,
+        Some(answer) => put_answer(out, answer.get())?,
         None => out.push_str("-")?,
     }
     Ok(())
@@ -154,7 +156,7 @@ fn put_take(
     out: &mut String,
     client: u32,
     text: &Txt,
-    given: &Option<Answer>,
+    given: &Option<Boxed<Answer>>,
 ) -> Result<(), NoMemory>
     ensures { OnOk result (string_bytes out.new ≡ string_bytes out.old ++ take_text_of client text.now given.now) }
 {
@@ -210,7 +212,7 @@ fn put_outcome(
     out: &mut String,
     how: How,
     reply: &Reply,
-    given: &Option<Answer>,
+    given: &Option<Boxed<Answer>>,
 ) -> Result<(), NoMemory>
     ensures { OnOk result (string_bytes out.new ≡ string_bytes out.old ++ came_text_of how reply.now given.now) }
 {
@@ -266,8 +268,8 @@ fn put_event(out: &mut String, event: &Event) -> Result<(), NoMemory>
     match event {
         Event::Take(client, text, given) => put_take(out, *client, text, given),
         Event::Call(client, store, request, how, reply, given) => {
-            put_asked(out, *client, store, request)?;
-            put_outcome(out, *how, reply, given)
+            put_asked(out, *client, store, request.get())?;
+            put_outcome(out, *how, reply.get(), given)
         }
         Event::Stop(client) => put_with_client(out, "stop ", *client),
         Event::Clock(moment) => {
@@ -276,8 +278,8 @@ fn put_event(out: &mut String, event: &Event) -> Result<(), NoMemory>
         }
         Event::Idle(client) => put_with_client(out, "idle ", *client),
         Event::Land(number, store, request, how, reply) => {
-            put_landed(out, *number, store, request)?;
-            put_effect(out, *how, reply)
+            put_landed(out, *number, store, request.get())?;
+            put_effect(out, *how, reply.get())
         }
         Event::Alter(table, column, kind, altered) => {
             put_alter(out, table, column, *kind, *altered)
@@ -285,7 +287,8 @@ fn put_event(out: &mut String, event: &Event) -> Result<(), NoMemory>
     }
 }
 
-fn put_event_line(out: &mut String, number: u64, event: &Event) -> Result<(), NoMemory>
+/// Adds the line of an event, which has this number.
+pub fn put_event_line(out: &mut String, number: u64, event: &Event) -> Result<(), NoMemory>
     ensures { OnOk result (string_bytes out.new ≡ string_bytes out.old ++ event_line number event.now) }
 {
     put_number(out, number)?;
@@ -364,13 +367,6 @@ fn put_heading(out: &mut String, word: &str, count: usize) -> Result<(), NoMemor
     Ok(())
 }
 
-fn put_events_part(out: &mut String, events: &Events) -> Result<(), NoMemory>
-    ensures { OnOk result (string_bytes out.new ≡ string_bytes out.old ++ events_text_of events.now) }
-{
-    put_heading(out, "events", events.len())?;
-    put_events(out, events.as_slice())
-}
-
 fn put_order_part(out: &mut String, order: &Points) -> Result<(), NoMemory>
     ensures { OnOk result (string_bytes out.new ≡ string_bytes out.old ++ order_text_of order.now) }
 {
@@ -385,15 +381,38 @@ fn put_tables_part(out: &mut String, tables: &TableRows) -> Result<(), NoMemory>
     put_dumps(out, tables.as_slice())
 }
 
+/// Adds what a report of these events begins with, before their lines.
+pub fn put_report_start(out: &mut String, events: &Events) -> Result<(), NoMemory>
+    ensures { OnOk result (string_bytes out.new ≡ string_bytes out.old ++ report_start_of events.now) }
+{
+    out.push_str("scalardb report 1\n")?;
+    put_heading(out, "events", events.len())?;
+    Ok(())
+}
+
+fn put_lines(out: &mut String, events: &Events) -> Result<(), NoMemory>
+    ensures { OnOk result (string_bytes out.new ≡ string_bytes out.old ++ event_lines 1 events.now) }
+{
+    put_events(out, events.as_slice())
+}
+
+/// Adds what the report of an outcome has behind the lines of its events.
+pub fn put_report_end(out: &mut String, outcome: &Outcome) -> Result<(), NoMemory>
+    ensures { OnOk result (string_bytes out.new ≡ string_bytes out.old ++ report_end_of outcome.now) }
+{
+    put_order_part(out, &outcome.order)?;
+    put_tables_part(out, &outcome.tables)?;
+    out.push_str("end\n")?;
+    Ok(())
+}
+
 /// Adds the text of an outcome's report.
 pub fn put_report(out: &mut String, outcome: &Outcome) -> Result<(), NoMemory>
     ensures { OnOk result (string_bytes out.new ≡ string_bytes out.old ++ report_text_of outcome.now) }
 {
-    out.push_str("scalardb report 1\n")?;
-    put_events_part(out, &outcome.events)?;
-    put_order_part(out, &outcome.order)?;
-    put_tables_part(out, &outcome.tables)?;
-    out.push_str("end\n")?;
+    put_report_start(out, &outcome.events)?;
+    put_lines(out, &outcome.events)?;
+    put_report_end(out, outcome)?;
     Ok(())
 }
 

@@ -138,13 +138,31 @@ fn left_by<'a>(
     match event {
         Event::Take(_, _, _) => (sure, found),
         Event::Call(_, at, request, how, reply, _) => {
-            written(sure, found, at, request, *how, reply, store, key)
+            written(
+                sure,
+                found,
+                at,
+                request.get(),
+                *how,
+                reply.get(),
+                store,
+                key,
+            )
         }
         Event::Stop(_) => (sure, found),
         Event::Clock(_) => (sure, found),
         Event::Idle(_) => (sure, found),
         Event::Land(_, at, request, how, reply) => {
-            written(sure, found, at, request, *how, reply, store, key)
+            written(
+                sure,
+                found,
+                at,
+                request.get(),
+                *how,
+                reply.get(),
+                store,
+                key,
+            )
         }
         Event::Alter(_, _, _, _) => (sure, found),
     }
@@ -170,15 +188,15 @@ fn changes(sure: bool, found: Option<&Record>, store: &Name, key: &Key, event: &
     match event {
         Event::Take(_, _, _) => false,
         Event::Call(_, at, request, how, reply, _) => {
-            writes_at(at, request, store, key)
-                && may_change(effect_in(key, sure, found, request, *how, reply))
+            writes_at(at, request.get(), store, key)
+                && may_change(effect_in(key, sure, found, request.get(), *how, reply.get()))
         }
         Event::Stop(_) => false,
         Event::Clock(_) => false,
         Event::Idle(_) => false,
         Event::Land(_, at, request, how, reply) => {
-            writes_at(at, request, store, key)
-                && may_change(effect_in(key, sure, found, request, *how, reply))
+            writes_at(at, request.get(), store, key)
+                && may_change(effect_in(key, sure, found, request.get(), *how, reply.get()))
         }
         Event::Alter(_, _, _, _) => false,
     }

@@ -244,13 +244,13 @@ fn add_record_of(records: &mut Seq<Place>, event: &Event) -> Result<(), NoMemory
     match event {
         Event::Take(_, _, _) => Ok(()),
         Event::Call(_, store, request, how, reply, _) => {
-            add_begun(records, store, request, effect_of(*how, reply))
+            add_begun(records, store, request.get(), effect_of(*how, reply.get()))
         }
         Event::Stop(_) => Ok(()),
         Event::Clock(_) => Ok(()),
         Event::Idle(_) => Ok(()),
         Event::Land(_, store, request, how, reply) => {
-            add_begun(records, store, request, effect_of(*how, reply))
+            add_begun(records, store, request.get(), effect_of(*how, reply.get()))
         }
         Event::Alter(_, _, _, _) => Ok(()),
     }

@@ -13,7 +13,7 @@ use crate::drawing::{
 use crate::fate::came_word;
 use crate::titles::{alter_text, asked_text, clock_text, idle_text, landed_text};
 use crate::{Effect, Lanes, effect_at, is_decision, may_change, rows_after, stage_of, verdict_of};
-use sdb_model::{Altered, Answer, Event, How, answer_text};
+use sdb_model::{Altered, Answer, Boxed, Event, How, answer_text};
 use sdb_schema::Kind;
 use sdb_types::{Batch, Condition, Name, NoMemory, Put, Record, Reply, Request, TableName};
 use std::alloc::Global;
@@ -23,13 +23,13 @@ fn put_answer_marks(
     lanes: &Lanes,
     row: usize,
     client: usize,
-    given: &Option<Answer>,
+    given: &Option<Boxed<Answer>>,
 ) -> Result<(), NoMemory>
     ensures { OnOk result (string_bytes out.new ≡ string_bytes out.old ++ flat_map (mark_svg lanes.now) (spec.answer_marks row client given.now)) }
 {
     match given {
         Some(answer) => {
-            let text = answer_text(*out.allocator(), answer)?;
+            let text = answer_text(*out.allocator(), answer.get())?;
             put_answered(out, row, client, text.as_str())
         }
         None => Ok(()),
@@ -42,7 +42,7 @@ fn put_take(
     row: usize,
     client: usize,
     text: &str,
-    given: &Option<Answer>,
+    given: &Option<Boxed<Answer>>,
 ) -> Result<(), NoMemory>
     ensures { OnOk result (string_bytes out.new ≡ string_bytes out.old ++ flat_map (mark_svg lanes.now) (spec.take_marks row client text.now given.now)) }
 {
@@ -322,16 +322,54 @@ pub fn put_marks(
         }
         Event::Call(client, store, request, how, reply, given) => {
             let client = lanes.of_client(*client);
-            put_call(out, lanes, row, client, store, request, *how, reply)?;
-            put_effect(out, lanes, past, row, store, request, *how, reply, rest)?;
+            put_call(
+                out,
+                lanes,
+                row,
+                client,
+                store,
+                request.get(),
+                *how,
+                reply.get(),
+            )?;
+            put_effect(
+                out,
+                lanes,
+                past,
+                row,
+                store,
+                request.get(),
+                *how,
+                reply.get(),
+                rest,
+            )?;
             put_answer_marks(out, lanes, row, client, given)
         }
         Event::Stop(client) => put_rested(out, row, lanes.of_client(*client), "stops"),
         Event::Clock(moment) => put_clock(out, lanes, row, *moment),
         Event::Idle(client) => put_idle(out, lanes, row, *client),
         Event::Land(number, store, request, how, reply) => {
-            put_landed(out, lanes, row, *number, store, request, *how, reply)?;
-            put_effect(out, lanes, past, row, store, request, *how, reply, rest)
+            put_landed(
+                out,
+                lanes,
+                row,
+                *number,
+                store,
+                request.get(),
+                *how,
+                reply.get(),
+            )?;
+            put_effect(
+                out,
+                lanes,
+                past,
+                row,
+                store,
+                request.get(),
+                *how,
+                reply.get(),
+                rest,
+            )
         }
         Event::Alter(table, column, kind, altered) => {
             put_altered(out, lanes, row, table, column, *kind, *altered)

@@ -5,8 +5,8 @@ ghost use Rattle.sdb_model.specs.Report.{alter_text_of};
 ghost use Rattle.sdb_picture.specs.Marks as spec;
 
 use sdb_model::{
-    Altered, Answer, Event, put_alter, put_answer, put_key, put_number, put_record, put_signed,
-    put_span,
+    Altered, Answer, Boxed, Event, put_alter, put_answer, put_key, put_number, put_record,
+    put_signed, put_span,
 };
 use sdb_schema::Kind;
 use sdb_types::{Name, NoMemory, Request, TableName};
@@ -116,11 +116,11 @@ fn put_event_text(out: &mut String, event: &Event) -> Result<(), NoMemory>
 {
     match event {
         Event::Take(_, text, _) => out.push_str(text.as_str())?,
-        Event::Call(_, _, request, _, _, _) => put_asked(out, request)?,
+        Event::Call(_, _, request, _, _, _) => put_asked(out, request.get())?,
         Event::Stop(_) => out.push_str("stops")?,
         Event::Clock(moment) => put_clock(out, *moment)?,
         Event::Idle(client) => out.push_str(idle_text(*client))?,
-        Event::Land(number, _, request, _, _) => put_landed(out, *number, request)?,
+        Event::Land(number, _, request, _, _) => put_landed(out, *number, request.get())?,
         Event::Alter(table, column, kind, altered) => {
             put_alter(out, table, column, *kind, *altered)?
         }
@@ -128,13 +128,13 @@ fn put_event_text(out: &mut String, event: &Event) -> Result<(), NoMemory>
     Ok(())
 }
 
-fn put_given(out: &mut String, given: &Option<Answer>) -> Result<(), NoMemory>
+fn put_given(out: &mut String, given: &Option<Boxed<Answer>>) -> Result<(), NoMemory>
     ensures { OnOk result (string_bytes out.new ≡ string_bytes out.old ++ spec.given_text given.now) }
 {
     match given {
         Some(answer) => {
             out.push_str(": ")?;
-            put_answer(out, answer)
+            put_answer(out, answer.get())
         }
         None => Ok(()),
     }

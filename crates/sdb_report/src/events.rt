@@ -29,7 +29,7 @@ fn take_of(alloc: Global, line: &[u8]) -> Result<Event, Unread>
     let (given, rest) = next_given_at(alloc, rest)?;
     let rest = expect(b" : ", rest)?;
     let text = text_of(alloc, rest)?;
-    Ok(Event::Take(client, text, given))
+    Ok(Event::take(alloc, client, text, given)?)
 }
 
 fn next_name_at(alloc: Global, bytes: &[u8]) -> Result<(Name, &[u8]), Unread>
@@ -92,7 +92,7 @@ fn call_of(alloc: Global, line: &[u8]) -> Result<Event, Unread>
 {
     let ((client, store, request), rest) = asked_at(alloc, line)?;
     let (how, reply, given) = whole_came_of(alloc, rest)?;
-    Ok(Event::Call(client, store, request, how, reply, given))
+    Ok(Event::call(alloc, client, store, request, how, reply, given)?)
 }
 
 // What became of a landing, and the store's reply: the second half.
@@ -122,7 +122,7 @@ fn land_of(alloc: Global, line: &[u8]) -> Result<Event, Unread>
 {
     let ((number, store, request), rest) = asked_at(alloc, line)?;
     let (how, reply) = whole_effect_of(alloc, rest)?;
-    Ok(Event::Land(number, store, request, how, reply))
+    Ok(Event::land(alloc, number, store, request, how, reply)?)
 }
 
 fn client_of(bytes: &[u8]) -> Result<u32, Unread>

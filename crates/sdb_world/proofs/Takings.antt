@@ -22,6 +22,10 @@ use Rattle.sdb_types.proofs.Public.{some_is}
 use Rattle.sdb_model.specs.Tables.{is_table_of_run}
 use Rattle.sdb_model.specs.Calls.{is_stored_reply}
 
+--- the event that was pushed, written out
+pub pushed_as : (old : List Event) {new : List Event} {e f : Event} → e ≡ f → new ≡ old ++ e ∷ [] → new ≡ old ++ f ∷ []
+pushed_as old is pushed = pushed ∙ ap (λ (x : Event). old ++ x ∷ []) is
+
 -- the client that was read at a place is there
 pub read_there : (client_slots : List ClientSlot) (i : ℕ) (s : ClientSlot) → i < length client_slots → s ≡ get_or client_slots i s → slice_get client_slots i ≡ Some s
 read_there client_slots i s low read = slice_get_read client_slots (length client_slots) i s refl low read

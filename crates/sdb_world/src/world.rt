@@ -195,7 +195,8 @@ impl World {
             .take(&self.catalog, &text, gate, fresh, self.clock);
         let _begun = client_slot.client.begun();
         client_slot.accepted += 1;
-        self.events.push(Event::Take(at as u32 + 1, text, answer))?;
+        let event = Event::take(self.events.allocator(), at as u32 + 1, text, answer)?;
+        self.events.push(event)?;
         Ok(())
     }
 
@@ -235,7 +236,9 @@ impl World {
         prove_order(&reply);
         let answered = reply.copy()?;
         let answer = self.client_slots[at].client.advance(reply, self.clock);
-        self.events.push(Event::Call(at as u32 + 1, store, request, how, answered, answer))?;
+        let alloc = self.events.allocator();
+        let event = Event::call(alloc, at as u32 + 1, store, request, how, answered, answer)?;
+        self.events.push(event)?;
         Ok(())
     }
 
@@ -299,8 +302,9 @@ impl World {
                 let store = stores.store_of(table_of(&request)).copy()?;
                 let (how, reply) = perform(stores, &request, Delivery::Step);
                 prove_order(&reply);
-                self.events
-                    .push(Event::Land(number, store, request, how, reply))?;
+                let alloc = self.events.allocator();
+                let event = Event::land(alloc, number, store, request, how, reply)?;
+                self.events.push(event)?;
                 Ok(())
             }
         }

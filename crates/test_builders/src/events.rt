@@ -30,7 +30,8 @@ fn answer_in(alloc: Global, case: Option<AnswerCase>) -> Result<Option<Answer>, 
 
 fn accepted(alloc: Global, text: &str, case: Option<AnswerCase>) -> Result<Event, NameRefused> {
     let text = Txt::new(alloc, text)?;
-    Ok(Event::Take(1, text, answer_in(alloc, case)?))
+    let answer = answer_in(alloc, case)?;
+    Ok(Event::take(alloc, 1, text, answer)?)
 }
 
 fn called(
@@ -43,14 +44,14 @@ fn called(
     let answer = answer_in(alloc, case)?;
     let request = request_of(alloc, ask)?;
     let reply = reply_of(alloc, answered)?;
-    Ok(Event::Call(1, store, request, How::Seen, reply, answer))
+    Ok(Event::call(alloc, 1, store, request, How::Seen, reply, answer)?)
 }
 
 fn landed(alloc: Global, number: u32, ask: Ask, answered: ReplyCase) -> Result<Event, NameRefused> {
     let store = Name::new(alloc, "ordered")?;
     let request = request_of(alloc, ask)?;
     let reply = reply_of(alloc, answered)?;
-    Ok(Event::Land(number, store, request, How::Seen, reply))
+    Ok(Event::land(alloc, number, store, request, How::Seen, reply)?)
 }
 
 fn added(

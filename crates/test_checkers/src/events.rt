@@ -87,12 +87,24 @@ fn state_of(second: Second, id: TxId) -> State {
 
 fn accepted(alloc: Global, client: u32, text: &str, ends: Ends) -> Result<Event, Fail> {
     let text = Txt::new(alloc, text)?;
-    Ok(Event::Take(client, text, answer_of(ends)))
+    Ok(Event::take(alloc, client, text, answer_of(ends))?)
 }
 
 // The one store.
 fn store(alloc: Global) -> Result<Name, Fail> {
     Ok(Name::new(alloc, "ordered")?)
+}
+
+fn called(
+    alloc: Global,
+    client: u32,
+    request: Request,
+    how: How,
+    reply: Reply,
+    answer: Option<Answer>,
+) -> Result<Event, Fail> {
+    let store = store(alloc)?;
+    Ok(Event::call(alloc, client, store, request, how, reply, answer)?)
 }
 
 // A put that is seen and applied.
@@ -103,10 +115,15 @@ fn put(
     condition: Condition,
     ends: Ends,
 ) -> Result<Event, Fail> {
-    let store = store(alloc)?;
     let request = Request::PutIf(rec, condition);
-    let answer = answer_of(ends);
-    Ok(Event::Call(client, store, request, How::Seen, Reply::Applied, answer))
+    called(
+        alloc,
+        client,
+        request,
+        How::Seen,
+        Reply::Applied,
+        answer_of(ends),
+    )
 }
 
 // A get that is seen.
@@ -117,10 +134,15 @@ fn get(
     found: Option<Record>,
     ends: Ends,
 ) -> Result<Event, Fail> {
-    let store = store(alloc)?;
     let reply = Reply::Found(found);
-    let answer = answer_of(ends);
-    Ok(Event::Call(client, store, Request::Get(key), How::Seen, reply, answer))
+    called(
+        alloc,
+        client,
+        Request::Get(key),
+        How::Seen,
+        reply,
+        answer_of(ends),
+    )
 }
 
 fn read(
@@ -160,16 +182,14 @@ fn decision(alloc: Global, id: TxId) -> Result<Request, Fail> {
 
 // The put of COMMITTED, of which its client learns nothing.
 fn lose(alloc: Global, id: TxId, client: u32, how: How, ends: Ends) -> Result<Event, Fail> {
-    let store = store(alloc)?;
     let request = decision(alloc, id)?;
-    let answer = answer_of(ends);
-    Ok(Event::Call(client, store, request, how, Reply::Fault, answer))
+    called(alloc, client, request, how, Reply::Fault, answer_of(ends))
 }
 
 fn land(alloc: Global, id: TxId) -> Result<Event, Fail> {
     let store = store(alloc)?;
     let request = decision(alloc, id)?;
-    Ok(Event::Land(1, store, request, How::Seen, Reply::Applied))
+    Ok(Event::land(alloc, 1, store, request, How::Seen, Reply::Applied)?)
 }
 
 fn abort(alloc: Global, id: TxId, client: u32, condition: Condition) -> Result<Event, Fail> {
@@ -196,18 +216,16 @@ fn rows_left(alloc: Global, second: Second) -> Result<Records, Fail> {
 }
 
 fn scan(alloc: Global, second: Second, client: u32) -> Result<Event, Fail> {
-    let store = store(alloc)?;
     let rows = rows_left(alloc, second)?;
     let span = span_of(alloc, "bank", "account", None)?;
     let request = Request::Scan(span);
-    Ok(Event::Call(client, store, request, How::Seen, Reply::Rows(rows), None))
+    called(alloc, client, request, How::Seen, Reply::Rows(rows), None)
 }
 
 fn remove(alloc: Global, id: TxId, client: u32) -> Result<Event, Fail> {
-    let store = store(alloc)?;
     let key = account(alloc)?;
     let request = Request::DeleteIf(key, Condition::Version(id, State::Committed));
-    Ok(Event::Call(client, store, request, How::Seen, Reply::Applied, None))
+    called(alloc, client, request, How::Seen, Reply::Applied, None)
 }
 
 fn event_of(alloc: Global, second: Second, step: Step) -> Result<Event, Fail> {

@@ -82,7 +82,7 @@ fn action_of(alloc: Global, phase: Phase, call: Call) -> Result<Action, Fail> {
 fn called(alloc: Global, request: Request, action: Action) -> Result<Labelled, Fail> {
     let store = Name::new(alloc, "ordered")?;
     Ok(Labelled {
-        event: Event::Call(1, store, request, How::Seen, Reply::Applied, None),
+        event: Event::call(alloc, 1, store, request, How::Seen, Reply::Applied, None)?,
         action,
         ends: None,
     })
@@ -109,7 +109,7 @@ fn taken(alloc: Global, text: &str, action: Action) -> Result<Labelled, Fail> {
     };
     let text = Txt::new(alloc, text)?;
     Ok(Labelled {
-        event: Event::Take(1, text, answer),
+        event: Event::take(alloc, 1, text, answer)?,
         action,
         ends: None,
     })

@@ -50,8 +50,8 @@ fn ask(tree: &mut Tree, request: &Request) -> Result<(), NoMemory> {
 
 fn play(tree: &mut Tree, event: &Event) -> Result<(), NoMemory> {
     match event {
-        Event::Call(_, _, request, How::Seen | How::Lost, _, _) => ask(tree, request),
-        Event::Land(_, _, request, How::Seen, _) => ask(tree, request),
+        Event::Call(_, _, request, How::Seen | How::Lost, _, _) => ask(tree, request.get()),
+        Event::Land(_, _, request, How::Seen, _) => ask(tree, request.get()),
         _ => Ok(()),
     }
 }

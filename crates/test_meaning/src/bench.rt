@@ -46,7 +46,7 @@ fn benches_are_made(rt: HostRuntime) -> Result<(), Fail> {
 
 fn committed(alloc: Global, events: &mut Events, client: u32) -> Result<(), NoMemory> {
     let text = Txt::new(alloc, "COMMIT")?;
-    events.push(Event::Take(client, text, Some(Answer::Committed)))
+    events.push(Event::take(alloc, client, text, Some(Answer::Committed))?)
 }
 
 fn put_row(alloc: Global, rows: &mut Rows, n: i32, p: i32, v: i32) -> Result<(), NoMemory> {

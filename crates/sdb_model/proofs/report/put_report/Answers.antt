@@ -1,20 +1,12 @@
-use Rattle.std.proofs.Common.{codes}
+use Rattle.std.proofs.Common.{List, ℕ, ◌++◌, ◌∙◌, ap, sym}
 use Rattle.std.specs.String.{string_bytes}
-use Rattle.sdb_model.specs.Report.{events_text_of, order_text_of, tables_text_of}
-use Rattle.sdb_model.proofs.Pieces.{five_pieces}
+use Rattle.sdb_model.specs.Report.{event_lines, report_start_of, report_end_of}
+use Rattle.sdb_model.proofs.Pieces.{three_pieces, report_parts}
 use Rattle.sdb_model.proofs.report.put_report.Goals as goal
 
 pub returns : goal.returns
 returns c =
-    five_pieces
-    (string_bytes c.args.out.now)
-    (codes "scalardb report 1\n")
-    (events_text_of c.args.outcome.now.events)
-    (order_text_of c.args.outcome.now.order)
-    (tables_text_of c.args.outcome.now.tables)
-    (codes "end\n")
-    c.in_ok-push_str.ensures.bytes
-    c.in_ok-put_events_part.ensures
-    c.in_ok-put_order_part.ensures
-    c.in_ok-put_tables_part.ensures
-    c.in_ok-push_str-2.ensures.bytes
+    let start = string_bytes c.args.out.now in
+    let o = c.args.outcome.now in
+    three_pieces start (report_start_of o.events) (event_lines 1 o.events) (report_end_of o) c.in_ok-put_report_start.ensures c.in_ok-put_lines.ensures c.in_ok-put_report_end.ensures
+    ∙ ap (λ (text : List ℕ). start ++ text) (sym (report_parts o))

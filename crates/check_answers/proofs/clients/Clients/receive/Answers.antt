@@ -22,4 +22,4 @@ returns c = λ so.
     let left = ap (λ (w : State). with_client_at w at (record { client = client; accepted = client_slot.accepted; stopped = client_slot.stopped })) c.self.view_is in
     let then : State = with_client_at (record { client_slots = c.self.inside.client_slots.items; flights = c.self.inside.flights.items; clock = c.self.inside.clock }) at (record { client = client; accepted = client_slot.accepted; stopped = client_slot.stopped }) in
     let stepped = called s then c.args.client at client_slot c.args.request.now reply answered client c.in-Some.ensures.0 c.in-Some.ensures.1 c.in-Some.ensures.2 read (c.if-not-is_pending.ensures refl) (c.if-not-can_answer.ensures refl) c.prove_order.ensures takes left in
-    subst (λ (a : Option Answer). CallStep s c.args.client c.args.request.now Seen reply a then) (c.is_answered_alike.ensures.same.0 so) stepped
+    subst (λ (a : Option Answer). CallStep s c.args.client c.args.request.now Seen reply a then) (c.is_answered_so.ensures.same.0 so) stepped

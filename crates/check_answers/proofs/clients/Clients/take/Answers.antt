@@ -27,6 +27,6 @@ returns c = λ so past same_catalog.
     let takes = subst (λ (w : State). TextStep (record { catalog = catalog_after script.catalog past; now = w.clock; gate = gate; fresh = next_id client_slot.client }) text client_slot.client answered client) c.self.view_is under in
     let small = subst (λ n. n < 2 ^ 64) c.begun-begun.ensures c.begun-begun.type_inv in
     let stepped = took script past s c.args.client at client_slot gate text answered client c.in-Some.ensures.0 c.in-Some.ensures.1 c.in-Some.ensures.2 read (c.if-not-is_idle.ensures.idle refl) (c.if-not-is_next.ensures refl) gated small takes in
-    let same = subst (λ (a : Option Answer). TakeStep script past s c.args.client text a (with_client_at s at (client_after client_slot 1 client))) (c.is_answered_alike.ensures.same.0 so) stepped in
+    let same = subst (λ (a : Option Answer). TakeStep script past s c.args.client text a (with_client_at s at (client_after client_slot 1 client))) (c.is_answered_so.ensures.same.0 so) stepped in
     let counted = subst (λ (n : ℕ). TakeStep script past s c.args.client text c.args.answer.now (with_client_at s at (record { client = client; accepted = n; stopped = client_slot.stopped }))) (sym c.in-Some-checked_add.ensures.1) same in
     subst (λ (w : State). TakeStep script past s c.args.client text c.args.answer.now (with_client_at w at (record { client = client; accepted = c.in-Some-checked_add.accepted; stopped = client_slot.stopped }))) (sym c.self.view_is) counted

@@ -6,7 +6,7 @@ use Rattle.sdb_world.specs.Types.{Gate, Table, TxId}
 use Rattle.sdb_model.specs.Catalogs.{catalog_after}
 use Rattle.sdb_model.specs.Follows.{texts_of}
 use Rattle.law_runs.specs.World.{WorldAt}
-use Rattle.sdb_world.proofs.Takings.{next_short, some_left, took}
+use Rattle.sdb_world.proofs.Takings.{next_short, pushed_as, some_left, took}
 use Rattle.sdb_world.proofs.world.World.take.Goals as goal
 
 pub take-answer-requires-clause-short : goal.take-answer-requires-clause-short
@@ -36,4 +36,4 @@ returns c =
     let under = subst (λ (ts : List Table). TextStep (record { catalog = ts; now = c.self.inside.clock; gate = gate; fresh = c.next_id-fresh.result }) c.in_ok-text.text client_slot.client c.take-answer.result c.take-answer.new.self) c.self.invariant (record { memory = c.take-answer.ensures.memory; answered = answered }) in
     let taking = subst (λ (i : TxId). TextStep (record { catalog = tables; now = c.self.inside.clock; gate = gate; fresh = i }) c.in_ok-text.text client_slot.client c.take-answer.result c.take-answer.new.self) numbered under in
     took _ c.args.self.now c.self.view_is c.args.at client_slot c.in_ok-text.text gate c.take-answer.result c.take-answer.new.self c.push.new.self c.requires.at read c.in_ok-text.ensures taking c.gate-gate.ensures
-    (subst (λ n. n < 2 ^ 64) c.begun-begun.ensures c.begun-begun.type_inv) c.in_ok-push.ensures.ok
+    (subst (λ n. n < 2 ^ 64) c.begun-begun.ensures c.begun-begun.type_inv) (pushed_as c.self.inside.events c.in_ok-event.ensures c.in_ok-push.ensures.ok)
