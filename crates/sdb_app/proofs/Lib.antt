@@ -12,4 +12,5 @@ mod Alters
 mod Keeping
 mod Promising
 mod WhereKnown
+mod Writing
 pub mod Public

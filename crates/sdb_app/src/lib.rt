@@ -15,6 +15,7 @@ mod schema;
 mod sql;
 mod status;
 mod streams;
+mod written;
 
 pub use program::run;
 pub use status::{InputFault, Status};

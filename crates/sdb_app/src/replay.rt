@@ -8,10 +8,10 @@ ghost use Rattle.sdb_app.specs.Run.{IsReplayed, IsScriptRead, IsUnread, StopsRep
 use crate::input::read_bytes;
 use crate::play::play;
 use crate::status::{InputFault, Status};
-use sdb_model::{Outcome, Script, report_text};
+use sdb_model::{Outcome, Script};
 use sdb_script::{ScriptRefused, read_script};
 use sdb_stores::Registry;
-use sdb_types::{Names, Octets, Source};
+use sdb_types::{Names, Source};
 use std::alloc::Global;
 
 // How the program ends where a text was refused.
@@ -45,40 +45,25 @@ fn read_input_script<R: Source>(
     }
 }
 
-// The text of a report.
-fn text_of(alloc: Global, outcome: &Outcome) -> Result<Octets, Status>
-    ensures ok { IfOk result (λ text. text ≡ report_text_of outcome.now) }
-    ensures err { IfErr result (λ s. s ≡ Status.NoMemory) }
-{
-    match report_text(alloc, outcome) {
-        Ok(text) => Ok(Octets::from_vec(text.into_bytes())),
-        Err(_) => Err(Status::NoMemory),
-    }
-}
-
-/// Reads a script, places its namespaces as it says, requires that its tables are empty, runs it on the stores, and returns the report
-/// of its run.
+/// Reads a script, places its namespaces as it says, requires that its tables are empty, runs it on the stores, and returns the outcome,
+/// whose report is the answer.
 pub fn replay<S: Registry, R: Source>(
     alloc: Global,
     stores: &mut S,
     input: &mut R,
     names: &Names,
-) -> Result<Octets, Status>
+) -> Result<Outcome, Status>
     requires some { 0 < length (S.state stores.old).views }
     requires unplaced { (S.state stores.old).places ≡ [] }
     requires distinct { AreDistinct (names_of (S.state stores.old).views) }
     requires names { names.now ≡ names_of (S.state stores.old).views }
-    ensures answered { IfOk result (λ text. IsReplayed (work_of S.state (stream R.remaining R.faults) stores.old stores.new input.old input.new) text) }
+    ensures answered { IfOk result (λ o. IsReplayed (work_of S.state (stream R.remaining R.faults) stores.old stores.new input.old input.new) (report_text_of o)) }
     ensures err { IfErr result (StopsReplay (work_of S.state (stream R.remaining R.faults) stores.old stores.new input.old input.new)) }
     ensures kept { AreKept (S.state stores.old) (S.state stores.new) }
     ensures counted { R.faults input.old ≤ R.faults input.new }
 {
-    let script = match read_input_script(alloc, input, names) {
-        Ok(script) => script,
-        Err(status) => return Err(status),
-    };
-    match play(alloc, stores, script) {
-        Ok(outcome) => text_of(alloc, &outcome),
+    match read_input_script(alloc, input, names) {
+        Ok(script) => play(alloc, stores, script),
         Err(status) => Err(status),
     }
 }

@@ -13,20 +13,6 @@ use Rattle.sdb_app.proofs.Following.{err_then}
 use Rattle.sdb_shell.proofs.Public.{map_ok}
 use Rattle.sdb_app.proofs.program.answer.Goals as goal
 
-pub returns-in-Replay-clause-answered : goal.returns-in-Replay-clause-answered
-returns-in-Replay-clause-answered g c =
-    let work = work_of g.S.Registry.state (stream g.R.Source.remaining g.R.Source.faults) c.args.stores.now c.replay.new.stores c.args.input.now c.replay.new.input in
-    let d = draws g.C.Clock.answered g.I.Ids.answered c.args.clock.now c.args.clock.now c.args.ids.now c.args.ids.now in
-    subst (λ (x : Command). IfOk c.replay.result (λ text. (promise_of x work d).answers text)) (sym c.in-Replay.is)
-    (map_ok _ _ c.replay.result (λ text h. (h, record { clock = refl; ids = refl })) c.replay.ensures.answered)
-
-pub returns-in-Replay-clause-err : goal.returns-in-Replay-clause-err
-returns-in-Replay-clause-err g c =
-    let work = work_of g.S.Registry.state (stream g.R.Source.remaining g.R.Source.faults) c.args.stores.now c.replay.new.stores c.args.input.now c.replay.new.input in
-    let d = draws g.C.Clock.answered g.I.Ids.answered c.args.clock.now c.args.clock.now c.args.ids.now c.args.ids.now in
-    subst (λ (x : Command). IfErr c.replay.result (promise_of x work d).stops) (sym c.in-Replay.is)
-    (err_then _ _ c.replay.result (λ s h. (h, record { clock = refl; ids = refl })) c.replay.ensures.err)
-
 pub returns-in-Bench-clause-answered : goal.returns-in-Bench-clause-answered
 returns-in-Bench-clause-answered g c =
     let work = work_of g.S.Registry.state (stream g.R.Source.remaining g.R.Source.faults) c.args.stores.now c.bench.new.stores c.args.input.now c.args.input.now in
@@ -116,9 +102,6 @@ returns-in-Alter-clause-err g c =
     (err_then _ _ c.alter.result (λ s h. (h input, record { clock = refl; ids = refl })) c.alter.ensures.err)
 
 ---- which stores stay
-
-pub returns-in-Replay-clause-kept : goal.returns-in-Replay-clause-kept
-returns-in-Replay-clause-kept g c = Kept c.replay.ensures.kept
 
 pub returns-in-Bench-clause-kept : goal.returns-in-Bench-clause-kept
 returns-in-Bench-clause-kept g c = Kept c.bench.ensures.kept

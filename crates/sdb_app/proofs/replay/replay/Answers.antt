@@ -1,8 +1,7 @@
-use Rattle.std.proofs.Common.{List, ℕ, subst, sym, ◌∙◌}
+use Rattle.std.proofs.Common.{List, ℕ, refl, subst, sym}
 use Rattle.sdb_report.proofs.Public.{one_text_of}
-use Rattle.sdb_app.specs.declared.status.Status.{Status}
 use Rattle.sdb_app.specs.Ends.{stream, work_of}
-use Rattle.sdb_app.specs.Run.{CanBePlaced, IsScriptRead, StopsReplay}
+use Rattle.sdb_app.specs.Run.{CanBePlaced, IsScriptRead}
 use Rattle.sdb_app.specs.Run.StopsReplay.{Unplayed}
 use Rattle.sdb_app.proofs.Playable.{followable, of_lines, placeable, playable}
 use Rattle.sdb_app.proofs.Following.{err_then}
@@ -21,24 +20,16 @@ play-requires-clause-places g c = subst (λ (ns : List (List ℕ)). CanBePlaced 
 pub play-requires-clause-lines : goal.play-requires-clause-lines
 play-requires-clause-lines g c = of_lines c.args.names.now _ c.in-Ok.script c.in-Ok.ensures.read.form
 
-pub returns-in-Ok-play-clause-answered : goal.returns-in-Ok-play-clause-answered
-returns-in-Ok-play-clause-answered g c =
+pub returns-in-Ok-clause-answered : goal.returns-in-Ok-clause-answered
+returns-in-Ok-clause-answered g c =
     let work = work_of g.S.Registry.state (stream g.R.Source.remaining g.R.Source.faults) c.args.stores.now c.play.new.stores c.args.input.now c.read_input_script.new.input in
     let read = subst (λ (ns : List (List ℕ)). IsScriptRead ns work.input.bytes work.rest.bytes c.in-Ok.script) c.requires.names c.in-Ok.ensures.read in
-    let outcome = c.in-Ok-play.outcome in
-    let made = c.in-Ok-play.ensures.made in
-    map_ok _ _ c.text_of.result
-    (λ text is. record { script = c.in-Ok.script; read = read; outcome = outcome; made = made; text = is; only = λ all other plain same. one_text_of other outcome plain (made.correct all).plain (sym same ∙ is) })
-    c.text_of.ensures.ok
+    map_ok _ _ c.play.result
+    (λ o made. record { script = c.in-Ok.script; read = read; outcome = o; made = made; text = refl; only = λ all other plain same. one_text_of other o plain (made.correct all).plain (sym same) })
+    c.play.ensures.made
 
-pub returns-in-Ok-play-clause-err : goal.returns-in-Ok-play-clause-err
-returns-in-Ok-play-clause-err g c =
+pub returns-in-Ok-clause-err : goal.returns-in-Ok-clause-err
+returns-in-Ok-clause-err g c =
     let work = work_of g.S.Registry.state (stream g.R.Source.remaining g.R.Source.faults) c.args.stores.now c.play.new.stores c.args.input.now c.read_input_script.new.input in
     let read = subst (λ (ns : List (List ℕ)). IsScriptRead ns work.input.bytes work.rest.bytes c.in-Ok.script) c.requires.names c.in-Ok.ensures.read in
-    err_then _ _ c.text_of.result (λ s is. subst (λ (x : Status). StopsReplay work x) (sym is) (Unplayed c.in-Ok.script read tt)) c.text_of.ensures.err
-
-pub returns-in-Err-play-clause-err : goal.returns-in-Err-play-clause-err
-returns-in-Err-play-clause-err g c =
-    let work = work_of g.S.Registry.state (stream g.R.Source.remaining g.R.Source.faults) c.args.stores.now c.play.new.stores c.args.input.now c.read_input_script.new.input in
-    let read = subst (λ (ns : List (List ℕ)). IsScriptRead ns work.input.bytes work.rest.bytes c.in-Ok.script) c.requires.names c.in-Ok.ensures.read in
-    Unplayed c.in-Ok.script read c.in-Err-play.ensures.err
+    err_then _ _ c.play.result (λ s cause. Unplayed c.in-Ok.script read cause) c.play.ensures.err
