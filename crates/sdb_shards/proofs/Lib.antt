@@ -1,0 +1,12 @@
+mod Fitting
+mod Slots
+mod Risen
+mod Concerned
+mod Gather
+mod Routes
+mod Moving
+mod Carried
+mod Rows
+mod Copies
+mod Listing
+mod Versions

@@ -1,0 +1,18 @@
+use Rattle.std.proofs.Common.{ap, ◌∙◌}
+use Rattle.sdb_types.specs.declared.record.Request.TheVariants.{PutIf}
+use Rattle.sdb_types.specs.Draws.{counted as next_number}
+use Rattle.sdb_store.specs.Store.{faults_after}
+use Rattle.sdb_shards.specs.Whole.{home_in, whole}
+use Rattle.sdb_shards.proofs.Routes.{called_home, failed_home, not_applied, own_key}
+use Rattle.sdb_shards.proofs.calls.ShardsStore.put_if.Goals as goal
+
+pub returns-in-Ok-clause-called : goal.returns-in-Ok-clause-called
+returns-in-Ok-clause-called c =
+    called_home (PutIf c.args.rec.now c.args.condition.now) c.put_if-reply.result c.answered.result c.in-Ok.at c.args.self.now c.begin.new.self c.answered.new.self c.put_if-reply.new.self c.begin.ensures.boxes c.begin.ensures.moved c.in-Ok.ensures.inside
+    (own_key (home_in c.args.self.now) c.args.rec.now.key c.in-Ok.at c.in-Ok.ensures.at) c.put_if-reply.ensures
+    ((λ i. whole (c.answered.ensures.moved i) (c.answered.ensures.boxes i)) ∙ c.spread.ensures.shows.contents) c.answered.ensures.reply
+    (c.answered.ensures.calls ∙ ap next_number (c.spread.ensures.shows.calls ∙ c.begin.ensures.calls)) (c.answered.ensures.faults ∙ ap (faults_after c.put_if-reply.result) (c.spread.ensures.shows.faults ∙ c.begin.ensures.faults))
+
+pub returns-in-Ok-clause-fault : goal.returns-in-Ok-clause-fault
+returns-in-Ok-clause-fault c =
+    failed_home c.in-Ok.at (PutIf c.args.rec.now c.args.condition.now) c.put_if-reply.result c.answered.result c.args.self.now.boxes c.begin.new.self.boxes c.put_if-reply.new.self c.answered.new.self.boxes c.begin.ensures.boxes c.in-Ok.ensures.inside c.put_if-reply.ensures c.answered.ensures.reply (λ h. c.answered.ensures.boxes ∙ c.spread.ensures.unmoved (not_applied c.put_if-reply.result h))
