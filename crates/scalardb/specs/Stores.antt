@@ -1,6 +1,9 @@
 -- The stores of the program, and how a call of it on them may end.
 use Rattle.std.specs.Prelude.{◌≡◌, ℕ, ℤ, ◌<◌, ◌≤◌, ◌+◌, List, [], ◌∷◌, ◌++◌, length, Option, codes}
 use Rattle.std.specs.FinMap.{empty}
+use Rattle.sdb_store.specs.FaultPlans.{Held}
+use Rattle.sdb_shards.specs.declared.part.Part.{Part}
+use Rattle.sdb_shards.specs.declared.part.Part.TheVariants as part
 use Rattle.sdb_stores.specs.Views.{Attached, StoreView, names_of}
 use Rattle.sdb_app.specs.declared.status.Status.{Status}
 use Rattle.sdb_app.specs.Ends.{Ends, Stream}
@@ -12,15 +15,23 @@ new_store name = record { name = name; contents = empty; faults = 0; calls = 0 }
 
 -- the program's own stores, as they are attached
 abbrev pub own_stores : List StoreView
-own_stores = new_store (codes "ordered") ∷ new_store (codes "hashed") ∷ new_store (codes "sqlite") ∷ []
+own_stores = new_store (codes "ordered") ∷ new_store (codes "hashed") ∷ new_store (codes "sqlite") ∷ new_store (codes "sharded") ∷ []
+
+-- a store in memory that holds nothing, and that never fails
+abbrev pub new_held : Held
+new_held = record { contents = empty; failing = []; made = 0; failed = 0 }
+
+-- the boxes of the last of them
+abbrev pub own_boxes : List Part
+own_boxes = part.Ordered new_held ∷ part.Hashed new_held ∷ part.Ordered new_held ∷ []
 
 -- what its registry shows at the entry: no place, and stores of known contents
 abbrev pub own_attached : Attached
-own_attached = record { places = []; views = own_stores; known = λ at. at < 3 }
+own_attached = record { places = []; views = own_stores; known = λ at. at < 4 }
 
 -- the same, after other stores, whose contents are not known
 abbrev pub attached_over : List StoreView → Attached
-attached_over files = record { places = []; views = files ++ own_stores; known = λ at. (length files ≤ at) × (at < length files + 3) }
+attached_over files = record { places = []; views = files ++ own_stores; known = λ at. (length files ≤ at) × (at < length files + 4) }
 
 -- What a call is handed beside its stores, before and after it: the input, the output, and the answers that the clock and the ids gave,
 -- where these are known.

@@ -6,6 +6,7 @@ ghost use Rattle.sdb_types.specs.Draws.{counted as next_number};
 use crate::run::{Call, On, ends};
 use sdb_hashed::Hashed;
 use sdb_ordered::Ordered;
+use sdb_shards::{Part, Parts, Shards};
 use sdb_sqlite::Kept;
 use sdb_store::{Fails, Store};
 use sdb_stores::Stores;
@@ -101,6 +102,19 @@ fn attach_sqlite(alloc: Global, stores: &mut Stores) -> Result<bool, Fail> {
     attach(alloc, stores, "sqlite", Box::new(alloc, database)?)
 }
 
+// The store `sharded` over three boxes, which moves a partition when its home has had two calls.
+fn attach_sharded(alloc: Global, stores: &mut Stores) -> Result<bool, Fail> {
+    let mut boxes = Parts::new(alloc);
+    boxes.push(Part::Ordered(Ordered::new(alloc, Fails::new(alloc))))?;
+    boxes.push(Part::Hashed(Hashed::new(alloc, Fails::new(alloc))))?;
+    boxes.push(Part::Ordered(Ordered::new(alloc, Fails::new(alloc))))?;
+    if boxes.len() != 3 {
+        return Ok(false);
+    }
+    let shards = Shards::new(boxes, 2);
+    attach(alloc, stores, "sharded", Box::new(alloc, shards)?)
+}
+
 // The store `ordered`, of which the call with this number finds no memory.
 fn attach_short(alloc: Global, stores: &mut Stores, call: u64) -> Result<bool, Fail> {
     let short = Short {
@@ -128,6 +142,14 @@ pub fn attach_all(alloc: Global, stores: &mut Stores, on: On) -> Result<bool, Fa
                 attach_ordered(alloc, stores, Fails::new(alloc))?
                     && attach_hashed(alloc, stores)?
                     && attach_sqlite(alloc, stores)?,
+            )
+        }
+        On::Four => {
+            Ok(
+                attach_ordered(alloc, stores, Fails::new(alloc))?
+                    && attach_hashed(alloc, stores)?
+                    && attach_sqlite(alloc, stores)?
+                    && attach_sharded(alloc, stores)?,
             )
         }
         On::TwoFailing(call, after) => {

@@ -75,6 +75,8 @@ pub enum On {
     Two,
     /// These, and the database `sqlite`.
     Three,
+    /// These, and `sharded`, where a partition is moved when its home has had two calls.
+    Four,
     TwoFailing(u64, bool),
     TwoShort(u64),
     One,

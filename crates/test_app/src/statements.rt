@@ -1,6 +1,6 @@
 //! The statements of a client in a report: the calls that each made, with its answer.
 use crate::asked::{Asked, REPLAY, attach_two, writes};
-use sdb_model::{Answer, Event, Outcome, Points, put_answer, put_number};
+use sdb_model::{Answer, Boxed, Event, Outcome, Points, put_answer, put_number};
 use sdb_report::read_report;
 use sdb_stores::Stores;
 use sdb_types::NoMemory;
@@ -25,13 +25,18 @@ impl Statements {
     }
 
     // Adds a step of the client, that makes so many calls.
-    fn add(&mut self, client: u32, calls: u64, answer: &Option<Answer>) -> Result<(), NoMemory> {
+    fn add(
+        &mut self,
+        client: u32,
+        calls: u64,
+        answer: &Option<Boxed<Answer>>,
+    ) -> Result<(), NoMemory> {
         if client != self.client {
             return Ok(());
         }
         self.calls = self.calls.saturating_add(calls);
         match answer {
-            Some(answer) => self.end(answer),
+            Some(answer) => self.end(answer.get()),
             None => Ok(()),
         }
     }

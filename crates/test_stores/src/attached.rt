@@ -54,8 +54,9 @@ pub fn attach_sqlite(alloc: Global, stores: &mut Stores) -> bool {
 
 fn performs(stores: &mut Stores, event: &Event) -> bool {
     match event {
-        Event::Call(_, _, request, _, reply, _) if stores.len() != 0 && is_well_formed(request) => {
-            stores.perform(request) == *reply
+        Event::Call(_, _, request, _, reply, _)
+            if stores.len() != 0 && is_well_formed(request.get()) => {
+            stores.perform(request.get()) == *reply.get()
         }
         _ => false,
     }

@@ -44,18 +44,18 @@ fn lends(hashed: &Hashed, at: &Span, rows: &Records) -> bool {
     }
 }
 
-fn lends_all(hashed: &Hashed, events: &[Event]) -> bool {
-    for event in events {
-        match event {
-            Event::Call(_, _, Request::Scan(at), _, Reply::Rows(rows), _) => {
-                if !lends(hashed, at, rows) {
-                    return false;
-                }
-            }
-            _ => return false,
-        }
+fn lends_as(hashed: &Hashed, event: &Event) -> bool {
+    match event {
+        Event::Call(_, _, request, _, reply, _) => match (request.get(), reply.get()) {
+            (Request::Scan(at), Reply::Rows(rows)) => lends(hashed, at, rows),
+            _ => false,
+        },
+        _ => false,
     }
-    true
+}
+
+fn lends_all(hashed: &Hashed, events: &[Event]) -> bool {
+    events.iter().all(|event| lends_as(hashed, event))
 }
 
 fn lends_buckets(alloc: Global) -> Result<bool, Fail> {

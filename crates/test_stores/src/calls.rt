@@ -10,7 +10,7 @@ use test_builders::Otherwise;
 fn answers<S: Store>(store: &mut S, event: &Event) -> bool {
     match event {
         Event::Call(_, _, request, _, reply, _) => {
-            is_well_formed(request) && call(store, request) == *reply
+            is_well_formed(request.get()) && call(store, request.get()) == *reply.get()
         }
         _ => false,
     }

@@ -23,3 +23,5 @@ mod puppet;
 mod registry;
 #[cfg(test)]
 mod retire;
+#[cfg(test)]
+mod shards;

@@ -22,7 +22,7 @@ pub fn listed(alloc: Global, report: &str) -> Result<Replies, Fail> {
     let mut replies = Replies::new(alloc);
     for event in &report.events {
         if let Event::Call(_, _, _, _, reply, _) = event {
-            replies.push(reply.copy()?)?;
+            replies.push(reply.get().copy()?)?;
         }
     }
     Ok(replies)

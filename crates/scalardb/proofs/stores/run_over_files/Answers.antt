@@ -14,17 +14,19 @@ returns g c =
     let State1 = read_made lists.own-1 _ lists.at-1-2 refl StoreState (λ j y. j.1.state y) _ _ _ c.into_dyn_box-3.ensures.1 in
     let State2 = read_made lists.own-1 _ lists.at-1-3 refl StoreState (λ j y. j.1.state y) _ _ _ c.into_dyn_box-4.ensures.1 in
     let State3 = read_made lists.own-1 _ lists.at-1-4 refl StoreState (λ j y. j.1.state y) _ _ _ c.into_dyn_box-5.ensures.1 in
-    let ordered = State1 ∙ ap memory_state (c.in-Ok-Ok-Ok-Ok-Ok.ensures''.ok ∙ c.new-4.ensures) in
-    let hashed = State2 ∙ ap memory_state (c.in-Ok-Ok-Ok-Ok-Ok.ensures'''.ok ∙ c.new-7.ensures) in
-    let database = State3 ∙ ap (λ k. (lists.own-1.entry lists.at-1-4).1.state k) c.in-Ok-Ok-Ok-Ok-Ok.ensures''''.ok in
+    let State4 = read_made lists.own-1 _ lists.at-1-5 refl StoreState (λ j y. j.1.state y) _ _ _ c.into_dyn_box-6.ensures.1 in
+    let ordered = State1 ∙ ap memory_state (c.in-Ok-Ok-Ok-Ok-Ok-Ok.ensures''.ok ∙ c.new-4.ensures) in
+    let hashed = State2 ∙ ap memory_state (c.in-Ok-Ok-Ok-Ok-Ok-Ok.ensures'''.ok ∙ c.new-7.ensures) in
+    let database = State3 ∙ ap (λ k. (lists.own-1.entry lists.at-1-4).1.state k) c.in-Ok-Ok-Ok-Ok-Ok-Ok.ensures''''.ok in
+    let sharded = State4 ∙ ap (λ k. (lists.own-1.entry lists.at-1-5).1.state k) c.in-Ok-Ok-Ok-Ok-Ok-Ok.ensures'''''.ok in
     let one = one_more c.attach.result _ _ [] _ _ c.attach.ensures.ok (search rules) c.new-stores.ensures.stores in
     record {
       ended =
-          ended_over _ _ _ _ _ (λ i. c.in-Ok-Ok.ensures.0 i ∷ c.in-Ok-Ok.ensures.1 i ∷ [])
-          (all_own _ c.attach-3.result c.attach-4.result c.attach-5.result _ _ _ _ _ _ _ _ _ _ c.attach-3.ensures.ok c.attach-4.ensures.ok c.attach-5.ensures.ok
-          (one_more c.attach-2.result _ _ _ _ _ c.attach-2.ensures.ok (search rules) one) (search rules) (search rules) (search rules)
-          c.in-Ok-Ok.ensures'.0 c.in-Ok-Ok.ensures'.1 c.in-Ok-Ok.ensures'.2
-          (subst IsNewStore (sym ordered) (record { where_known = tt; empty = refl; sound = refl; unused = refl })) (subst IsNewStore (sym hashed) (record { where_known = tt; empty = refl; sound = refl; unused = refl })) (subst IsNewStore (sym database) c.requires.new))
+          ended_over _ _ _ _ _ (λ i. c.in-Ok-Ok-Ok.ensures.0 i ∷ c.in-Ok-Ok-Ok.ensures.1 i ∷ [])
+          (all_own _ c.attach-3.result c.attach-4.result c.attach-5.result c.attach-6.result _ _ _ _ _ _ _ _ _ _ _ _ _ c.attach-3.ensures.ok c.attach-4.ensures.ok c.attach-5.ensures.ok c.attach-6.ensures.ok
+          (one_more c.attach-2.result _ _ _ _ _ c.attach-2.ensures.ok (search rules) one) (search rules) (search rules) (search rules) (search rules)
+          c.in-Ok-Ok-Ok.ensures'.0 c.in-Ok-Ok-Ok.ensures'.1 c.in-Ok-Ok-Ok.ensures'.2 c.in-Ok-Ok-Ok.ensures'.3
+          (subst IsNewStore (sym ordered) (record { where_known = tt; empty = refl; sound = refl; unused = refl })) (subst IsNewStore (sym hashed) (record { where_known = tt; empty = refl; sound = refl; unused = refl })) (subst IsNewStore (sym database) c.requires.new) (subst IsNewStore (sym sharded) c.in-Ok-Ok-Ok.ensures''))
           c.run.ensures.ended;
     }
 
@@ -38,4 +40,4 @@ pub returns-then-not-zeroth : goal.returns-then-not-zeroth
 returns-then-not-zeroth g c = record { ended = starved_over (codes "file" ∷ codes "file2" ∷ []) (map string_bytes c.args.words.now) _ _ _ _ }
 
 pub run-requires : goal.run-requires
-run-requires g c = some_added c.attach-5.result _ _ _ _ c.attach-5.ensures.ok (search rules)
+run-requires g c = some_added c.attach-6.result _ _ _ _ c.attach-6.ensures.ok (search rules)
