@@ -27,7 +27,7 @@ def main():
     program, writes = sys.argv[1], int(sys.argv[2]) if len(sys.argv) > 2 else 1000
     with tempfile.TemporaryDirectory() as folder:
         print("| store | partitions | calls | M instructions |\n|---|---|---|---|")
-        for store in ["ordered", "hashed", "sqlite"]:
+        for store in ["ordered", "hashed", "sqlite", "sharded"]:
             for partitions, row in [(1, "1, %d"), (writes, "%d, 1")]:
                 whole, without = (script(store, row, writes, end) for end in ["COMMIT", "ROLLBACK"])
                 count = loads.instructions(program, whole, folder) - loads.instructions(program, without, folder)

@@ -16,7 +16,7 @@ import subprocess
 import sys
 
 ROOT = pathlib.Path(__file__).resolve().parent.parent
-STORES = ["ordered", "hashed", "sqlite"]
+STORES = ["ordered", "hashed", "sqlite", "sharded"]
 TABLES = [
     ("bank", "account", {"id": "INT", "balance": "INT", "owner": "TEXT"}, ["id"], []),
     ("bank", "entry", {"id": "INT", "n": "INT", "amount": "BIGINT"}, ["id"], ["n"]),

@@ -65,7 +65,7 @@ each() {
 }
 
 printf '%-7s %-6s %12s %8s %8s %9s %13s %14s %18s\n' store script transactions events seconds 'peak KiB' 'us per event' instructions 'instr. per event'
-for store in ordered hashed sqlite; do
+for store in ordered hashed sqlite sharded; do
     for kind in gets scans; do
         for n in 250 1000 3300; do
             { places "$store" && "$kind" "$n"; } >"$room/script"

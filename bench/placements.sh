@@ -1,5 +1,5 @@
 #!/bin/bash
-# Plays one script over each choice of the three stores for two namespaces and the coordinator's, and compares the reports.
+# Plays one script over each choice of the four stores for two namespaces and the coordinator's, and compares the reports.
 #
 # A report is the same wherever its tables are kept, but for the names of the stores in its calls. A choice whose report is another one is
 # named; then the numbers are printed.
@@ -34,9 +34,9 @@ EOF
 report hashed ordered sqlite >"$room/first"
 same=0
 differ=0
-for bank in ordered hashed sqlite; do
-    for shop in ordered hashed sqlite; do
-        for coordinator in ordered hashed sqlite; do
+for bank in ordered hashed sqlite sharded; do
+    for shop in ordered hashed sqlite sharded; do
+        for coordinator in ordered hashed sqlite sharded; do
             if report "$bank" "$shop" "$coordinator" | cmp -s - "$room/first"; then
                 same=$((same + 1))
             else

@@ -5,6 +5,7 @@
 mod plans;
 mod records;
 mod snapshot;
+mod spread;
 mod statements;
 mod stores;
 mod tables;
@@ -26,6 +27,7 @@ fn play(rt: &HostRuntime, bench: &str, words: &mut Args) -> Option<usize> {
         "plans" => plans::play(alloc, words),
         "csv" => tables::play(alloc, words),
         "stores" => stores::play(alloc, words),
+        "spread" => spread::play(alloc, words),
         "texts" => texts::play(rt, words),
         _ => None,
     }

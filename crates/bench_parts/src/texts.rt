@@ -18,7 +18,7 @@ fn input(rt: &HostRuntime) -> Option<Vec<u8>> {
 // The stores that a script may name.
 fn stores(alloc: Global) -> Option<Names> {
     let mut names = Names::new(alloc);
-    for name in ["ordered", "hashed", "sqlite"] {
+    for name in ["ordered", "hashed", "sqlite", "sharded"] {
         names.push(Name::new(alloc, name).ok()?).ok()?;
     }
     Some(names)
