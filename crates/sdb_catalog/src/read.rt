@@ -39,7 +39,7 @@ fn only_text(values: &[Value]) -> Option<&Txt>
     }
 }
 
-#[tactic(auto, using(sdb_record::proofs::Public::equal_texts))]
+#[tactic(auto, using(sdb_types::proofs::Public::equal_texts))]
 fn is_named(pair: &Pair, name: &str) -> bool
     ensures { result ≡ is_named_lem name.now pair.now }
 {

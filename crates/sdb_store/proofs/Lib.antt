@@ -1,4 +1,3 @@
-mod Texts
 mod Lawful
 mod Counts
 mod Batches

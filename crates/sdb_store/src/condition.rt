@@ -12,10 +12,7 @@ use sdb_types::{Columns, Condition, Record, State, TxId, Txt, Value, value_named
 fn is_text_of(text: &Txt, number: u128) -> bool
     ensures { result ≡ has_value (Some (Text text.now)) (Text (id_text number)) }
 {
-    match TxId::from_text(text) {
-        Some(own) => own.0 == number,
-        None => false,
-    }
+    TxId(number).is_text(text.as_str())
 }
 
 fn is_id(value: Option<&Value>, id: TxId) -> bool

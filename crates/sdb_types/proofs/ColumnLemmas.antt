@@ -5,6 +5,7 @@ use Rattle.std.specs.Option.{option_map_or}
 use Rattle.std.proofs.lemmas.List.{get_or_default}
 use Rattle.std.proofs.lemmas.Option.{slice_get-get_or}
 use Rattle.std.specs.List.Sorted.{IsPartitionPoint}
+use Rattle.std.specs.Cmp.{Equal-is}
 use Rattle.std.specs.declared.cmp.Ordering.{Ordering}
 use Rattle.std.specs.declared.cmp.Ordering.TheVariants.{Less, Equal, Greater}
 use Rattle.std.specs.Ordering.{is_lt, ordering_reverse}
@@ -121,6 +122,27 @@ all_above name (e ∷ es) zero d c k l = less_of _ k
 all_above name (e ∷ es) (suc j) d c k l =
     let rest = and_second _ _ c in
     name_total.trans name e.name (get_or es j d).name (less_of _ k) (all_above e.name es j d (and_second _ _ rest) (and_first _ _ rest) (omega (arith, l)))
+
+-- the same of a column by its name
+named_above : (low name : List ℕ) (es : List Pair) (n : ℕ) → are_columns es ≡ true → starts_above low es ≡ true → is_first_name name (drop n es) ≡ true → name_cmp low name ≡ Less
+named_above low name [] zero c k h = cc
+named_above low name [] (suc n) c k h = cc
+named_above low name (e ∷ es) zero c k h =
+    let same : e.name ≡ name = name_exact e.name name ((Equal-is _).0 h) in
+    subst (λ (x : List ℕ). name_cmp low x ≡ Less) same (less_of _ k)
+named_above low name (e ∷ es) (suc n) c k h =
+    let rest = and_second _ _ c in
+    name_total.trans low e.name name (less_of _ k) (named_above e.name name es n (and_second _ _ rest) (and_first _ _ rest) h)
+
+-- a column is at the place of its name
+pub named-is_place : (name : List ℕ) (es : List Pair) (n : ℕ) → are_columns es ≡ true → is_first_name name (drop n es) ≡ true → n ≡ place_in name es
+named-is_place name [] zero c h = refl
+named-is_place name [] (suc n) c h = cc
+named-is_place name (e ∷ es) zero c h = simp ((Equal-is _).0 h) refl
+named-is_place name (e ∷ es) (suc n) c h =
+    let rest = and_second _ _ c in
+    let q : name_cmp e.name name ≡ Less = named_above e.name name es n (and_second _ _ rest) (and_first _ _ rest) h in
+    simp q (ap suc (named-is_place name es n (and_second _ _ rest) h))
 
 -- before a column that is below a name, each is
 pub columns_parted : (name : List ℕ) (es : List Pair) → are_columns es ≡ true → (i j : ℕ) (d : Pair) → i ≤ j → j < length es → is_below name (get_or es j d) ≡ true → is_below name (get_or es i d) ≡ true

@@ -1,11 +1,13 @@
 -- The order of keys is total, and only equal keys tie.
-use Rattle.std.proofs.Common.{◌≡◌, ℕ, List, [], ◌∷◌, ◌++◌, true, refl, ap, ◌∙◌, arith}
+use Rattle.std.proofs.Common.{◌≡◌, ℕ, List, [], ◌∷◌, ◌++◌, true, refl, sym, ap, ◌∙◌, arith}
 use Rattle.std.specs.declared.cmp.Ordering.{Ordering}
 use Rattle.std.specs.declared.cmp.Ordering.TheVariants.{Less, Equal, Greater}
-use Rattle.std.specs.Ordering.{nat_cmp, ordering_then, is_lt}
+use Rattle.std.specs.Ordering.{nat_cmp, ordering_then, is_lt, is_eq}
 use Rattle.std.specs.Cmp.{IsTotalOrder}
 use Rattle.std.specs.Cmp.Lexicographic.{slice_cmp, lists_total, nat_list_cmp_total}
 use Rattle.std.specs.FinMap.{IsAntisymmetric, nat_cmp-IsAntisymmetric, slice_cmp-IsAntisymmetric}
+use Rattle.std.specs.Str.{bytes_eq}
+use Rattle.std.proofs.lemmas.Map.Text.{is_eq-slice_cmp}
 use Rattle.std.proofs.lemmas.Cmp.{on_total, then_total}
 use Rattle.sdb_types.specs.declared.key.TableName.{TableName}
 use Rattle.std.proofs.lemmas.Bool.Decides.{nat_tests}
@@ -25,6 +27,10 @@ name_exact = slice_cmp-IsAntisymmetric nat_cmp-IsAntisymmetric
 
 pub name_total : IsTotalOrder name_cmp
 name_total = nat_list_cmp_total
+
+-- equal bytes are the same name
+pub equal_texts : (a b : List ℕ) → bytes_eq a b ≡ is_eq (name_cmp a b)
+equal_texts a b = sym (is_eq-slice_cmp a b)
 
 pub table_exact : IsAntisymmetric table_cmp
 table_exact a b h =

@@ -4,10 +4,10 @@ pub use Rattle.sdb_types.proofs.Batches.{all_put_at, all_put_more, all_put_outsi
 pub use Rattle.sdb_types.proofs.Bools.{and_both, and_first, and_second, or_first}
 pub use Rattle.sdb_types.proofs.ColumnLemmas.{by_order, with_column-are_columns}
 pub use Rattle.sdb_types.proofs.ColumnMap.{column-put_same, tail_above, tail_columns, turned}
-pub use Rattle.sdb_types.proofs.KeyOrder.{by_text, key_exact, key_total, name_exact, name_total, parts, starts_trans, table_exact, table_total}
+pub use Rattle.sdb_types.proofs.KeyOrder.{by_text, equal_texts, key_exact, key_total, name_exact, name_total, parts, starts_trans, table_exact, table_total}
 pub use Rattle.sdb_types.proofs.Keys.{same_key_exact, same_key_is, same_key_of, same_key_self, same_key_decides, same_key_turned, tests}
 pub use Rattle.sdb_types.proofs.Pieces.{appends_more, appends_piece, takes_more}
 pub use Rattle.sdb_types.proofs.Replies.{rows_in-are_rows_of}
 pub use Rattle.sdb_types.proofs.SpanRows.{find_span, same_rows}
-pub use Rattle.sdb_types.proofs.TxIdLemmas.{id_text_parses}
+pub use Rattle.sdb_types.proofs.TxIdLemmas.{id_text_parses, is_text_value}
 pub use Rattle.sdb_types.proofs.Words.{no_dot, part_small, start_part}

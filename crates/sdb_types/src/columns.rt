@@ -1,8 +1,8 @@
 //! The columns of a record.
-ghost use Rattle.std.specs.Prelude.{◌≡◌, [], length, true, IfOk, OnOk, OnErr, drop};
+ghost use Rattle.std.specs.Prelude.{◌≡◌, [], length, true, false, IfOk, OnOk, OnErr, drop};
 ghost use Rattle.std.specs.Option.{option_copied};
 ghost use Rattle.std.specs.Slice.{IsItemAt};
-ghost use Rattle.sdb_types.specs.Columns.{are_columns, column, with_column, place_in, is_null, is_first_name, first_value, ends_below};
+ghost use Rattle.sdb_types.specs.Columns.{are_columns, column, with_column, place_in, is_null, is_named as is_named_lem, is_first_name, first_value, ends_below};
 
 use crate::memory::{Duplicate, NoMemory};
 use crate::name::Name;
@@ -90,13 +90,21 @@ fn value_in<'a>(pairs: &'a [Pair], name: &Name) -> Option<&'a Value>
     value_at(pairs, place_of(pairs, name), name)
 }
 
+// The lengths are compared first, so most names differ at once.
+#[tactic(auto, using(crate::proofs::KeyOrder::equal_texts))]
+fn is_named(pair: &Pair, name: &str) -> bool
+    ensures { result ≡ is_named_lem name.now pair.now }
+{
+    pair.name.as_str().as_bytes() == name.as_bytes()
+}
+
 /// The value of the column whose name is this text, if there is one. Takes no memory.
 pub fn value_named<'a>(pairs: &'a [Pair], name: &str) -> Option<&'a Value>
     ensures { option_copied result ≡ column pairs.now name.now }
 {
     pairs
         .iter()
-        .find(|pair| pair.name.as_str().cmp(name).is_eq())
+        .find(|pair| is_named(pair, name))
         .map(|pair| &pair.value)
 }
 
@@ -113,27 +121,53 @@ fn put_last(pairs: &mut SharedSeq<Pair>, pair: Pair) -> Result<(), NoMemory>
     pairs.push(pair)
 }
 
-// Puts a pair at its place. Most columns are set in the order of their names, so the end is looked at first.
-fn put(pairs: &mut SharedSeq<Pair>, pair: Pair) -> Result<(), NoMemory>
+// Puts a pair in the place of the column of its name, which is at this place.
+fn put_over(pairs: &mut SharedSeq<Pair>, place: usize, pair: Pair) -> Result<(), NoMemory>
+    requires columns { are_columns pairs.old ≡ true }
+    requires known { is_first_name pair.name (drop place pairs.old) ≡ true }
+    ensures ok { OnOk result (pairs.new ≡ with_column pair pairs.old) }
+    ensures err { OnErr result (pairs.new ≡ pairs.old) }
+{
+    if is_null_value(&pair.value) {
+        return pairs.remove(place);
+    }
+    pairs.replace(place, pair)
+}
+
+// Puts a pair of a name that no column has at the place where it would be.
+fn put_new(pairs: &mut SharedSeq<Pair>, place: usize, pair: Pair) -> Result<(), NoMemory>
+    requires place { place ≡ place_in pair.name pairs.old }
+    requires unknown { is_first_name pair.name (drop place pairs.old) ≡ false }
+    ensures ok { OnOk result (pairs.new ≡ with_column pair pairs.old) }
+    ensures err { OnErr result (pairs.new ≡ pairs.old) }
+{
+    if is_null_value(&pair.value) {
+        return Ok(());
+    }
+    pairs.insert(place, pair)
+}
+
+// Puts a pair at its place, which is looked for first at `place`, and then behind all columns. `place` is then the one behind it.
+fn put(pairs: &mut SharedSeq<Pair>, place: &mut usize, pair: Pair) -> Result<(), NoMemory>
     requires { are_columns pairs.old ≡ true }
     ensures ok { OnOk result (pairs.new ≡ with_column pair pairs.old) }
     ensures err { OnErr result (pairs.new ≡ pairs.old) }
 {
+    let here = *place;
+    if is_at(pairs.as_slice(), here, &pair.name) {
+        *place = here.saturating_add(1);
+        return put_over(pairs, here, pair);
+    }
     if are_below(pairs.as_slice(), &pair.name) {
+        *place = pairs.len().saturating_add(1);
         return put_last(pairs, pair);
     }
-    let place = place_of(pairs.as_slice(), &pair.name);
-    let known = is_at(pairs.as_slice(), place, &pair.name);
-    if is_null_value(&pair.value) {
-        if known {
-            return pairs.remove(place);
-        }
-        return Ok(());
+    let there = place_of(pairs.as_slice(), &pair.name);
+    *place = there.saturating_add(1);
+    if is_at(pairs.as_slice(), there, &pair.name) {
+        return put_over(pairs, there, pair);
     }
-    if known {
-        return pairs.replace(place, pair);
-    }
-    pairs.insert(place, pair)
+    put_new(pairs, there, pair)
 }
 
 impl Columns {
@@ -143,6 +177,15 @@ impl Columns {
         Columns {
             pairs: SharedSeq::new(alloc),
         }
+    }
+
+    /// No columns, with room for so many, taken at once. No room takes no memory.
+    pub fn with_room(alloc: Global, room: usize) -> Result<Columns, NoMemory>
+        ensures { IfOk result (λ columns. columns ≡ []) }
+    {
+        Ok(Columns {
+            pairs: SharedSeq::with_room(alloc, room)?,
+        })
     }
 
     /// The columns that these pairs are, in the order of their names.
@@ -182,7 +225,17 @@ impl Columns {
         ensures ok { OnOk result (self.new ≡ with_column (record { name = name; value = value }) self.old) }
         ensures err { OnErr result (self.new ≡ self.old) }
     {
-        put(&mut self.pairs, Pair { name, value })
+        let mut end = self.pairs.len();
+        self.set_near(&mut end, name, value)
+    }
+
+    /// Sets a column as `set` does. The column at a place is looked at first: where names are set in their order, each is found there. The
+    /// place is then the one behind the column that was set.
+    pub fn set_near(&mut self, place: &mut usize, name: Name, value: Value) -> Result<(), NoMemory>
+        ensures ok { OnOk result (self.new ≡ with_column (record { name = name; value = value }) self.old) }
+        ensures err { OnErr result (self.new ≡ self.old) }
+    {
+        put(&mut self.pairs, place, Pair { name, value })
     }
 }
 

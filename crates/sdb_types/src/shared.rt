@@ -75,6 +75,22 @@ impl<T> SharedSeq<T> {
     }
 }
 
+impl<T: Drop> SharedSeq<T> {
+    /// An empty list with room for so many items, taken at once. No room takes no memory.
+    pub fn with_room(alloc: Global, room: usize) -> Result<Self, NoMemory>
+        ensures { IfOk result (λ s. s ≡ []) }
+    {
+        if room == 0 {
+            return Ok(SharedSeq::new(alloc));
+        }
+        let items = Seq::with_room(alloc, room)?;
+        Ok(SharedSeq {
+            items: Some(Rc::new(alloc, items)?),
+            alloc,
+        })
+    }
+}
+
 // A list of one item. Most lists of values stay so, and have no room for more.
 fn of_one<T: Drop>(alloc: Global, item: T) -> Result<Rc<Seq<T>>, NoMemory>
     ensures { IfOk result (λ shared. shared.value ≡ item ∷ []) }

@@ -47,8 +47,8 @@ impl TxId {
         }
     }
 
-    // The text is this id's.
-    fn is_text(self, text: &str) -> bool
+    /// Whether a text is this id's lower-case hyphenated form. Takes no memory.
+    pub fn is_text(self, text: &str) -> bool
         ensures { IsTrue result ↔ (text.now ≡ id_text self.0) }
     {
         let mut buffer = Uuid::encode_buffer();
