@@ -37,7 +37,7 @@ fn puts(alloc: Global, group: &[Write], id: TxId, now: i64) -> Result<Batch, NoM
     requires { All IsWrite group.now }
     ensures { IfOk result (λ puts. puts ≡ map (forward_of id now) group.now) }
 {
-    let mut puts = Batch::new(alloc);
+    let mut puts = Batch::with_room(alloc, group.len())?;
     for write in group {
         puts.push(forward(alloc, write, id, now)?)?;
     }

@@ -6,7 +6,7 @@ ghost use Rattle.sdb_phases.specs.Work.{look_of};
 ghost use Rattle.sdb_phases.specs.Steps.{CanGet, decide_request, decide_request_at, decide_next, followed};
 ghost use Rattle.sdb_phases.specs.declared.step.DecidePhase.TheVariants.{Put, Look, Abort, Again};
 
-use sdb_phases::{DecidePhase, DecideStep, abort_row, decide_row, look};
+use sdb_phases::{DecidePhase, DecideStep, decisions};
 use sdb_record::{Decided, Decision, decision_of};
 use sdb_types::{NoMemory, Record, Reply, Request, TxId};
 use std::alloc::Global;
@@ -77,14 +77,15 @@ impl Decide {
     pub fn new(alloc: Global, id: TxId, now: i64) -> Result<Decide, NoMemory>
         ensures { IfOk result (λ d. d ≡ record { id = id; moment = now; phase = Put }) }
     {
+        let (put, look, abort) = decisions(alloc, id, now)?;
         Ok(Decide {
             alloc,
             id,
             moment: now,
             phase: DecidePhase::Put,
-            put: decide_row(alloc, id, now)?,
-            look: look(alloc, id)?,
-            abort: abort_row(alloc, id, now)?,
+            put,
+            look,
+            abort,
         })
     }
 

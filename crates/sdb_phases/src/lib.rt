@@ -7,7 +7,7 @@ mod request;
 mod step;
 
 pub use check::{Check, Checks, Expectations, Expected, Target, Wanted};
-pub use request::{abort_row, back, decide_row, forward, look, prepare};
+pub use request::{abort_row, back, decisions, forward, look, prepare};
 pub use step::{
     AbortPhase, DecidePhase, DecideStep, Outcome, PrepareStep, RecoverPhase, RecoverStep,
     ValidateStep,

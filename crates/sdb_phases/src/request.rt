@@ -4,8 +4,8 @@ ghost use Rattle.sdb_record.specs.Rolls.{IsWrite, state_of_change};
 ghost use Rattle.sdb_phases.specs.Work.{prepare_of, forward_of, back_of, decide_of, abort_of, look_of, is_as_prepared};
 
 use sdb_record::{
-    Change, Decision, Write, condition_of, coordinator_key, coordinator_row, prepared,
-    rolled_forward, version_of,
+    Change, Decision, Write, committed, condition_of, coordinator_key, coordinator_row,
+    decision_row, prepared, version_of,
 };
 use sdb_types::{Condition, Duplicate, NoMemory, Put, Request, State, TxId};
 use std::alloc::Global;
@@ -42,9 +42,8 @@ pub fn forward(alloc: Global, write: &Write, id: TxId, now: i64) -> Result<Put, 
     requires { IsWrite write.now }
     ensures { IfOk result (λ put. put ≡ forward_of id now write.now) }
 {
-    let rec = prepared(alloc, write, id, now)?;
     Ok(Put {
-        rec: rolled_forward(alloc, &rec, now)?,
+        rec: committed(alloc, write, id, now, now)?,
         condition: as_prepared(write, id),
     })
 }
@@ -60,16 +59,6 @@ pub fn back(write: &Write, id: TxId) -> Result<Request, NoMemory>
     }
 }
 
-/// The put of a transaction's row COMMITTED, made at a moment from 0 to 2^53.
-pub fn decide_row(alloc: Global, id: TxId, now: i64) -> Result<Request, NoMemory>
-    ensures { IfOk result (λ request. request ≡ decide_of id now) }
-{
-    Ok(Request::PutIf(
-        coordinator_row(alloc, id, Decision::Committed, now)?,
-        Condition::Absent,
-    ))
-}
-
 /// The put of a transaction's row ABORTED, made at a moment from 0 to 2^53.
 pub fn abort_row(alloc: Global, id: TxId, now: i64) -> Result<Request, NoMemory>
     ensures { IfOk result (λ request. request ≡ abort_of id now) }
@@ -77,6 +66,24 @@ pub fn abort_row(alloc: Global, id: TxId, now: i64) -> Result<Request, NoMemory>
     Ok(Request::PutIf(
         coordinator_row(alloc, id, Decision::Aborted, now)?,
         Condition::Absent,
+    ))
+}
+
+/// The calls that decide on a transaction, at a moment from 0 to 2^53: the put of its row COMMITTED, the look for its row, and the put of its
+/// row ABORTED. They share the row's key.
+#[tactic(auto, unfolding(sdb_record::specs::Coordinator::coordinator_row_of))]
+pub fn decisions(alloc: Global, id: TxId, now: i64) -> Result<(Request, Request, Request), NoMemory>
+    ensures put { IfOk result (λ x. x.0 ≡ decide_of id now) }
+    ensures look { IfOk result (λ x. x.1 ≡ look_of id) }
+    ensures abort { IfOk result (λ x. x.2 ≡ abort_of id now) }
+{
+    let key = coordinator_key(alloc, id)?;
+    let committed = decision_row(alloc, key.copy()?, Decision::Committed, now)?;
+    let aborted = decision_row(alloc, key.copy()?, Decision::Aborted, now)?;
+    Ok((
+        Request::PutIf(committed, Condition::Absent),
+        Request::Get(key),
+        Request::PutIf(aborted, Condition::Absent),
     ))
 }
 

@@ -2,10 +2,7 @@
 use Rattle.std.proofs.Common.{◌≡◌, ℕ, ℤ, pos, ◌<◌, ◌^◌, List, Bool, true, false, not, cond, refl, sym, ap, ◌∙◌, subst, Option, Some, None, Ok, Err, Result, IfSome}
 use Rattle.std.specs.Prelude.{find}
 use Rattle.std.specs.Ordering.{is_eq}
-use Rattle.std.specs.Cmp.{tied_itself, both_ways}
-use Rattle.std.proofs.Common.{eqb}
-use Rattle.std.proofs.lemmas.Bool.Decides.{Decides-eqb}
-use Rattle.std.specs.Option.{option_map_or}
+use Rattle.std.specs.Cmp.{tied_itself}
 use Rattle.std.specs.List.{list_any}
 use Rattle.sdb_record.specs.Types.{Pair, Record, State, TxId, Value}
 use Rattle.sdb_types.specs.declared.value.Value.TheVariants as value
@@ -43,7 +40,7 @@ left-id : (w : Write) (id : TxId) (now : ℤ) → column (prepared_record w id n
 left-id w id now =
     ap (λ ps. column ps tx_id) (prepared-columns w id now) ∙ marked-id id (state_of_change w.change) (next_version w.base) now (with_base (new_columns w.change) (base_columns w.base))
 
-left-state : (w : Write) (id : TxId) (now : ℤ) → column (prepared_record w id now).columns tx_state ≡ Some (value.Int (state_number (state_of_change w.change)))
+pub left-state : (w : Write) (id : TxId) (now : ℤ) → column (prepared_record w id now).columns tx_state ≡ Some (value.Int (state_number (state_of_change w.change)))
 left-state w id now =
     ap (λ ps. column ps tx_state) (prepared-columns w id now) ∙ marked-state id (state_of_change w.change) (next_version w.base) now (with_base (new_columns w.change) (base_columns w.base))
 
@@ -181,20 +178,6 @@ row-decision id d n small h =
 pub row-key : (id : TxId) (d : Decision) (n : ℤ) → (coordinator_row_of id d n).key ≡ coordinator_key_of id
 unfolding coordinator_row_of
 row-key id d n = refl
-
--- a record is a transaction's where its id is that which is read
-pub written : (o : Option Value) (id : TxId) (f : Option TxId) → id.0 < 2 ^ 128 → id_in_value o ≡ f → option_map_or (λ (x : TxId). eqb x.0 id.0) f false ≡ has_value o (value.Text (id_text id.0))
-written o id f small h =
-    both_ways _ _
-    (λ k. found f k h)
-    (λ k.
-    let e = ap id_in_value (has_value-is o (value.Text (id_text id.0)) k) ∙ id_of_text-id_text id.0 small in
-    let g : f ≡ Some id = sym h ∙ e in
-    ap (λ (x : Option TxId). option_map_or (λ (y : TxId). eqb y.0 id.0) x false) g ∙ (Decides-eqb id.0 id.0).1 refl)
-  where
-    found : (f : Option TxId) → option_map_or (λ (x : TxId). eqb x.0 id.0) f false ≡ true → id_in_value o ≡ f → has_value o (value.Text (id_text id.0)) ≡ true
-    found None k e = absurd (cc)
-    found (Some x) k e = subst (λ (n : ℕ). has_value o (value.Text (id_text n)) ≡ true) ((Decides-eqb x.0 id.0).0 k) (id-value o x e)
 
 pub checked-state : (ps : List Pair) (m : Meta) → checked ps ≡ Ok m → is_in Committed ps ≡ is_committed m.state
 checked-state ps m h =

@@ -79,7 +79,7 @@ latest_joined at gs i g w it is have q =
 
 ---- a write begins a group
 
-has_more : (q : Key) (gs : List (List Write)) (g : List Write) → is_beside q g ≡ false → has_group q gs ≡ false → has_group q (gs ++ g ∷ []) ≡ false
+pub has_more : (q : Key) (gs : List (List Write)) (g : List Write) → is_beside q g ≡ false → has_group q gs ≡ false → has_group q (gs ++ g ∷ []) ≡ false
 has_more q [] g other none = ap (λ b. b || false) other
 has_more q (x ∷ gs) g other none = by (is_beside q x) none (has_more q gs g other)
   where

@@ -10,7 +10,9 @@ mod RollLaws
 mod WriteLaws
 mod PreparedRecords
 mod ImageLaws
+mod CommittedRecords
 mod Grouping
 mod Latest
+mod Apart
 mod KeysOnce
 pub mod Public

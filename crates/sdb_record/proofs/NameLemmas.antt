@@ -10,8 +10,6 @@ use Rattle.std.specs.Borrow.{Bor}
 use Rattle.std.specs.Option.{option_copied}
 use Rattle.std.specs.Str.Pattern.{FindsTextPrefix, StripsPrefix}
 use Rattle.std.specs.Cmp.{tied_itself}
-use Rattle.std.specs.Str.{bytes_eq}
-use Rattle.std.proofs.lemmas.Map.Text.{is_eq-slice_cmp}
 use Rattle.std.specs.Ordering.{is_eq}
 use Rattle.sdb_types.specs.Exact.{equal_of}
 use Rattle.sdb_types.specs.Order.{name_cmp}
@@ -87,10 +85,6 @@ before-is_name (c ∷ cs) i h =
     let n : length (c ∷ cs) ≤ 64 = nat_at_most (length (c ∷ cs)) 64 h in
     let m : length (before_name (c ∷ cs)) ≡ 7 + length (c ∷ cs) = length-append before_prefix (c ∷ cs) in
     and_both (nat_le (length (before_name (c ∷ cs))) 71) (is_identifier (before_name (c ∷ cs))) (at_most_nat (length (before_name (c ∷ cs))) 71 (omega arith)) (parts c cs i)
-
--- equal bytes are the same name
-pub equal_texts : (a b : List ℕ) → bytes_eq a b ≡ same_name a b
-equal_texts a b = sym (is_eq-slice_cmp a b)
 
 pub name_of_column : (text : List ℕ) → is_column_name text ≡ true → is_name text ≡ true
 name_of_column text h = and_both (nat_le (length text) 71) _ (longer (length text) (and_first (nat_le (length text) 64) (is_identifier text) h)) (and_second (nat_le (length text) 64) (is_identifier text) h)

@@ -1,7 +1,7 @@
 -- The coordinator's rows, each the one decision on a transaction.
 use Rattle.std.specs.Prelude.{ℕ, ℤ, pos, ◌+ℤ◌, int_le, Bool, ◌&&◌, if◌then◌else◌, List, [], ◌∷◌, Option, Some, None, Result, Ok, codes, true, false}
 use Rattle.std.specs.Ordering.{int_eq}
-use Rattle.sdb_record.specs.Types.{Key, Record, TableName, TxId, Value}
+use Rattle.sdb_record.specs.Types.{Key, Pair, Record, TableName, TxId, Value}
 use Rattle.sdb_types.specs.declared.value.Value.TheVariants as value
 use Rattle.sdb_types.specs.Columns.{column}
 use Rattle.sdb_types.specs.TxId.{id_text}
@@ -27,10 +27,15 @@ abbrev pub decision_number : Decision → ℤ
 decision_number decision.Committed = pos 3
 decision_number decision.Aborted = pos 4
 
+-- what a transaction's row says of a decision that was made at a moment
+abbrev pub decision_columns : Decision → ℤ → List Pair
+decision_columns decision created_at =
+    record { name = tx_created_at; value = value.BigInt created_at } ∷ record { name = tx_state; value = value.Int (decision_number decision) } ∷ []
+
 -- the row of a decision on a transaction
 unfoldable pub coordinator_row_of : TxId → Decision → ℤ → Record
 coordinator_row_of id decision created_at =
-    record { key = coordinator_key_of id; columns = record { name = tx_created_at; value = value.BigInt created_at } ∷ record { name = tx_state; value = value.Int (decision_number decision) } ∷ [] }
+    record { key = coordinator_key_of id; columns = decision_columns decision created_at }
 
 abbrev pub id_in_values : List Value → Option TxId
 id_in_values (value.Text text ∷ []) = id_of_text text

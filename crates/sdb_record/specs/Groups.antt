@@ -2,7 +2,10 @@
 use Rattle.std.specs.Prelude.{◌≡◌, ◌+◌, ◌<◌, ◌≤◌, ◌^◌, ℕ, Bool, true, false, not, nat_lt, ◌&&◌, if◌then◌else◌, List, [], ◌∷◌, ◌++◌, map, length, slice_index_or, drop, Option, Some, None}
 use Rattle.std.specs.List.{AllByRecursion, flat_map, list_any}
 use Rattle.sdb_record.specs.Types.{Key}
-use Rattle.sdb_types.specs.Order.{are_distinct, in_one_partition, same_partition}
+use Rattle.std.specs.declared.cmp.Ordering.{Ordering}
+use Rattle.std.specs.Ordering.{is_lt, ordering_then}
+use Rattle.std.specs.Cmp.Lexicographic.{slice_cmp}
+use Rattle.sdb_types.specs.Order.{are_distinct, in_one_partition, same_partition, table_cmp, value_cmp}
 use Rattle.sdb_record.specs.declared.write.Write.{Write}
 
 -- a group is of the partition of a key: that of its first write
@@ -32,6 +35,19 @@ placed_all gs (w ∷ ws) = placed_all (placed w gs) ws
 -- the groups of writes
 abbrev pub grouped : List Write → List (List Write)
 grouped ws = placed_all [] ws
+
+-- a key is of a partition past the last one
+abbrev pub partition_cmp : Key → Key → Ordering
+partition_cmp a b = ordering_then (table_cmp a.table b.table) (slice_cmp value_cmp a.partition b.partition)
+
+abbrev pub is_past : Option Key → Key → Bool
+is_past None key = true
+is_past (Some last) key = is_lt (partition_cmp last key)
+
+-- each write is of a partition past that of the write before it, and the first past the last one
+abbrev pub rise_from : Option Key → List Write → Bool
+rise_from last [] = true
+rise_from last (w ∷ ws) = is_past last w.key && rise_from (Some w.key) ws
 
 -- the writes of groups, one group after the other
 abbrev pub ungrouped : List (List Write) → List Write

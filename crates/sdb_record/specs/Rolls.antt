@@ -89,9 +89,17 @@ abbrev pub tombstone_mark : Bool → List Pair
 tombstone_mark true = record { name = tx_tombstone; value = value.Bool true } ∷ []
 tombstone_mark false = []
 
+-- columns in state 3, committed at a moment, and those of a tombstone where the row was deleted
+abbrev pub with_committed : Bool → ℤ → List Pair → List Pair
+with_committed deleted created_at ps =
+    with_columns (tombstone_mark deleted) (with_columns (record { name = tx_state; value = value.Int (state_number state.Committed) } ∷ record { name = tx_committed_at; value = value.BigInt created_at } ∷ []) ps)
+
 abbrev pub forward_columns : List Pair → ℤ → List Pair
-forward_columns ps created_at =
-    with_columns (tombstone_mark (is_in state.Deleted ps)) (with_columns (record { name = tx_state; value = value.Int (state_number state.Committed) } ∷ record { name = tx_committed_at; value = value.BigInt created_at } ∷ []) (own_columns ps))
+forward_columns ps created_at = with_committed (is_in state.Deleted ps) created_at (own_columns ps)
+
+abbrev pub deletes : Change → Bool
+deletes (change.Row columns) = false
+deletes change.Delete = true
 
 -- An unresolved record rolled forward: without its before image, in state 3, committed at the moment of the coordinator's
 -- row, and a tombstone where it was in state 2.

@@ -1,11 +1,12 @@
 //! Writes in groups, each of which goes to a store in one call.
-ghost use Rattle.std.specs.Prelude.{◌≡◌, ◌∷◌, ◌++◌, [], IfOk, OnOk};
+ghost use Rattle.std.specs.Prelude.{◌≡◌, ◌∷◌, ◌++◌, [], IfOk, OnOk, map, None};
+ghost use Rattle.std.specs.Option.{option_copied};
 ghost use Rattle.std.specs.BTreeMap.{get};
 ghost use Rattle.sdb_types.specs.Order.{key_cmp};
-ghost use Rattle.sdb_record.specs.Groups.{HaveLatest, grouped as grouped_lem, partition_of as partition_of_lem, placed};
+ghost use Rattle.sdb_record.specs.Groups.{HaveLatest, grouped as grouped_lem, is_past as is_past_lem, partition_of as partition_of_lem, placed, rise_from};
 
 use crate::write::{Write, Writes};
-use sdb_types::{Duplicate, Key, NoMemory, Seq, Values};
+use sdb_types::{Duplicate, Key, NoMemory, Seq, Values, find_rising};
 use std::alloc::Global;
 use std::collections::BTreeMap;
 
@@ -26,11 +27,11 @@ fn partition_of(alloc: Global, key: &Key) -> Result<Key, NoMemory>
     })
 }
 
-// What a tree has at a key.
+// What a tree has at a key. Most partitions come in their order.
 fn index_of(places: &BTreeMap<Key, usize>, key: &Key) -> Option<usize>
     ensures { result ≡ get key_cmp places.now key.now }
 {
-    match places.get(key) {
+    match find_rising(places, key) {
         Some(i) => Some(*i),
         None => None,
     }
@@ -85,11 +86,53 @@ fn place(
     begin(groups, latest, partition, write)
 }
 
+// Whether a key is of a partition past the last one.
+fn is_past(last: Option<&Key>, key: &Key) -> bool
+    ensures { result ≡ is_past_lem (option_copied last.entry) key.now }
+{
+    match last {
+        None => true,
+        Some(last) => last
+            .table
+            .cmp(&key.table)
+            .then(last.partition.cmp(&key.partition))
+            .is_lt(),
+    }
+}
+
+// Whether each write is of a partition past that of the write before it: then each is a group of its own.
+fn rise(writes: &[Write]) -> bool
+    ensures { result ≡ rise_from None writes.now }
+{
+    let mut last = None;
+    for write in writes {
+        if !is_past(last, &write.key) {
+            return false;
+        }
+        last = Some(&write.key);
+    }
+    true
+}
+
+// A group of each write.
+fn apart(alloc: Global, writes: &[Write]) -> Result<Groups, NoMemory>
+    ensures { IfOk result (λ groups. groups ≡ map (λ w. w ∷ []) writes.now) }
+{
+    let mut groups = Seq::new(alloc);
+    for write in writes {
+        groups.push(alone(alloc, write.copy()?)?)?;
+    }
+    Ok(groups)
+}
+
 /// The writes in groups: one after the other, a write joins the latest group of its table and partition where that has fewer than 64 writes,
 /// and otherwise begins a new group. It takes time in the order of n log n for n writes, whatever their partitions are.
 pub fn grouped(writes: &Writes) -> Result<Groups, NoMemory>
     ensures { IfOk result (λ groups. groups ≡ grouped_lem writes.now) }
 {
+    if rise(writes.as_slice()) {
+        return apart(writes.allocator(), writes.as_slice());
+    }
     let mut groups = Vec::new(writes.allocator());
     let mut latest = BTreeMap::new(writes.allocator());
     for write in writes.as_slice() {

@@ -9,7 +9,7 @@ ghost use Rattle.sdb_record.specs.Moved.{condition_of, is_unchanged, same_versio
 
 use crate::meta::id_of;
 use crate::roll::has_state;
-use sdb_types::{Columns, Condition, Record, State, TxId, value_named};
+use sdb_types::{Columns, Condition, Record, State, TxId, Value, value_named};
 
 /// The transaction that wrote a record with these columns, where they name one.
 pub fn writer_of(columns: &Columns) -> Option<TxId>
@@ -21,9 +21,9 @@ pub fn writer_of(columns: &Columns) -> Option<TxId>
 fn is_written_by(columns: &Columns, id: TxId) -> bool
     ensures { result ≡ has_value (column columns.now tx_id) (value.Text (id_text id.0)) }
 {
-    match writer_of(columns) {
-        Some(writer) => writer.0 == id.0,
-        None => false,
+    match value_named(columns.pairs(), "tx_id") {
+        Some(Value::Text(text)) => id.is_text(text.as_str()),
+        _ => false,
     }
 }
 

@@ -71,7 +71,7 @@ impl MetaColumn {
 }
 
 // The lengths are compared first, so most names differ at once.
-#[tactic(auto, using(crate::proofs::NameLemmas::equal_texts))]
+#[tactic(auto, using(sdb_types::proofs::Public::equal_texts))]
 pub fn is_text(name: &str, text: &str) -> bool
     ensures { result ≡ same_name name.now text.now }
 {

@@ -5,7 +5,7 @@ ghost use Rattle.sdb_types.specs.Columns.{are_columns};
 ghost use Rattle.sdb_record.specs.Names.{before_name};
 ghost use Rattle.sdb_record.specs.Meta.{have_identifiers, is_in, is_unresolved, is_transactional};
 ghost use Rattle.sdb_record.specs.Parts.{with_columns, before_pair, own_columns, before_part, before_record, are_user_columns, are_short};
-ghost use Rattle.sdb_record.specs.Rolls.{prepared_record, forward_record, forward_columns, back_of, image_of, next_version, next_version_of, new_columns, new_meta, writer_columns, age_columns, base_columns, is_tombstone as is_tombstone_lem, state_of_change, IsWrite};
+ghost use Rattle.sdb_record.specs.Rolls.{prepared_record, forward_record, forward_columns, back_of, image_of, next_version, next_version_of, new_columns, new_meta, writer_columns, age_columns, base_columns, is_tombstone as is_tombstone_lem, state_of_change, with_committed, deletes as deletes_lem, IsWrite};
 ghost use Rattle.sdb_types.specs.Identifier.{is_name};
 
 use crate::coordinator::{Decided, Decision};
@@ -79,12 +79,12 @@ fn lay_base(alloc: Global, columns: &mut Columns, pairs: &[Pair]) -> Result<(), 
     Ok(())
 }
 
-// The columns outside the before image.
+// The columns outside the before image, with room for the two more that rolling forward sets.
 fn own_part(alloc: Global, columns: &Columns) -> Result<Columns, NoMemory>
     ensures { IfOk result (λ own. own ≡ own_columns columns.now) }
 {
-    let _length = columns.len();
-    let mut own = Columns::new(alloc);
+    let length = columns.len();
+    let mut own = Columns::with_room(alloc, length.saturating_add(2))?;
     lay_own(&mut own, columns.pairs())?;
     Ok(own)
 }
@@ -94,8 +94,8 @@ fn base_part(alloc: Global, columns: &Columns) -> Result<Columns, NoMemory>
     requires { have_identifiers columns.now ≡ true }
     ensures { IfOk result (λ base. base ≡ before_part columns.now) }
 {
-    let _length = columns.len();
-    let mut base = Columns::new(alloc);
+    let length = columns.len();
+    let mut base = Columns::with_room(alloc, length)?;
     lay_base(alloc, &mut base, columns.pairs())?;
     Ok(base)
 }
@@ -162,7 +162,8 @@ fn kept_place(row: &[Pair]) -> usize
         .count()
 }
 
-// The columns of a row with those of the base, as they are kept: each is set at the end.
+// The columns of a row with those of the base, as they are kept: each is set at the end. There is room for the four more
+// of the metadata.
 fn row_with_base(alloc: Global, row: &[Pair], base: &[Pair]) -> Result<Columns, NoMemory>
     requires row { are_columns row.now ≡ true }
     requires user { are_user_columns row.now ≡ true }
@@ -171,7 +172,8 @@ fn row_with_base(alloc: Global, row: &[Pair], base: &[Pair]) -> Result<Columns, 
     ensures { IfOk result (λ columns. columns ≡ with_columns (map before_pair base.now) row.now) }
 {
     let (below, above) = row.split_at(kept_place(row));
-    let mut columns = Columns::new(alloc);
+    let room = row.len().saturating_add(base.len()).saturating_add(4);
+    let mut columns = Columns::with_room(alloc, room)?;
     lay(&mut columns, below)?;
     lay_kept(alloc, &mut columns, base)?;
     lay(&mut columns, above)?;
@@ -257,16 +259,24 @@ pub fn prepared(alloc: Global, write: &Write, id: TxId, now: i64) -> Result<Reco
     })
 }
 
+// Says that a record was committed at a moment, and that it is a tombstone where its row was deleted.
+fn set_committed(columns: &mut Columns, created_at: i64, deleted: bool) -> Result<(), NoMemory>
+    ensures { OnOk result (columns.new ≡ with_committed deleted created_at columns.old) }
+{
+    columns.set(Name::known(Known::TxState), Value::Int(3))?;
+    columns.set(Name::known(Known::TxCommittedAt), Value::BigInt(created_at))?;
+    if deleted {
+        columns.set(Name::known(Known::TxTombstone), Value::Bool(true))?;
+    }
+    Ok(())
+}
+
 // The columns of an unresolved record that is rolled forward.
 fn forward_part(alloc: Global, columns: &Columns, created_at: i64) -> Result<Columns, NoMemory>
     ensures { IfOk result (λ forward. forward ≡ forward_columns columns.now created_at) }
 {
     let mut forward = own_part(alloc, columns)?;
-    forward.set(Name::known(Known::TxState), Value::Int(3))?;
-    forward.set(Name::known(Known::TxCommittedAt), Value::BigInt(created_at))?;
-    if has_state(columns, State::Deleted) {
-        forward.set(Name::known(Known::TxTombstone), Value::Bool(true))?;
-    }
+    set_committed(&mut forward, created_at, has_state(columns, State::Deleted))?;
     Ok(forward)
 }
 
@@ -279,6 +289,40 @@ pub fn rolled_forward(alloc: Global, rec: &Record, created_at: i64) -> Result<Re
     Ok(Record {
         key: rec.key.copy()?,
         columns: forward_part(alloc, &rec.columns, created_at)?,
+    })
+}
+
+fn deletes(change: &Change) -> bool
+    ensures { result ≡ deletes_lem change.now }
+{
+    match change {
+        Change::Row(_) => false,
+        Change::Delete => true,
+    }
+}
+
+/// The committed record that a transaction leaves for a write that it prepared at a moment, and that was committed at another, both from 0 to
+/// 2^53: what `rolled_forward` makes of what `prepared` gives, without the before image in between.
+pub fn committed(
+    alloc: Global,
+    write: &Write,
+    id: TxId,
+    now: i64,
+    created_at: i64,
+) -> Result<Record, NoMemory>
+    requires { IsWrite write.now }
+    ensures { IfOk result (λ rec. rec ≡ forward_record (prepared_record write.now id now) created_at) }
+{
+    let version = version_above(value_named(base_pairs(&write.base), "tx_version"));
+    let row = row_pairs(&write.change);
+    let mut columns = Columns::with_room(alloc, row.len().saturating_add(6))?;
+    lay(&mut columns, row)?;
+    set_writer(alloc, &mut columns, id, state_left(&write.change))?;
+    set_age(&mut columns, version, now)?;
+    set_committed(&mut columns, created_at, deletes(&write.change))?;
+    Ok(Record {
+        key: write.key.copy()?,
+        columns,
     })
 }
 

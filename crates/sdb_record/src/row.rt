@@ -2,7 +2,7 @@
 ghost use Rattle.std.specs.Prelude.{◌≡◌, Ok, IfOk, IfErr};
 ghost use Rattle.std.specs.Option.{option_copied};
 ghost use Rattle.sdb_record.specs.Refused.{Refuses};
-ghost use Rattle.sdb_record.specs.Coordinator.{coordinator_table as coordinator_table_lem, coordinator_key_of, coordinator_row_of, decision_number, is_coordinator_table, id_in_values, id_of_key, decision_in_value, decision_in, is_expired};
+ghost use Rattle.sdb_record.specs.Coordinator.{coordinator_table as coordinator_table_lem, coordinator_key_of, coordinator_row_of, decision_columns, decision_number, is_coordinator_table, id_in_values, id_of_key, decision_in_value, decision_in, is_expired};
 
 use crate::coordinator::{Decided, Decision};
 use crate::meta::{MetaRefused, moment_of, read_id, refused};
@@ -45,6 +45,24 @@ pub fn coordinator_key(alloc: Global, id: TxId) -> Result<Key, NoMemory>
     })
 }
 
+/// The row of a decision under the key of a transaction's row, made at a moment from 0 to 2^53.
+pub fn decision_row(
+    alloc: Global,
+    key: Key,
+    decision: Decision,
+    now: i64,
+) -> Result<Record, NoMemory>
+    ensures { IfOk result (λ row. row ≡ record { key = key; columns = decision_columns decision now }) }
+{
+    let mut columns = Columns::with_room(alloc, 2)?;
+    columns.set(Name::known(Known::TxCreatedAt), Value::BigInt(now))?;
+    columns.set(
+        Name::known(Known::TxState),
+        Value::Int(decision_value(decision)),
+    )?;
+    Ok(Record { key, columns })
+}
+
 /// The row of a decision on a transaction, made at a moment from 0 to 2^53.
 #[tactic(auto, unfolding(crate::specs::Coordinator::coordinator_row_of))]
 pub fn coordinator_row(
@@ -55,16 +73,7 @@ pub fn coordinator_row(
 ) -> Result<Record, NoMemory>
     ensures { IfOk result (λ row. row ≡ coordinator_row_of id decision now) }
 {
-    let mut columns = Columns::new(alloc);
-    columns.set(Name::known(Known::TxCreatedAt), Value::BigInt(now))?;
-    columns.set(
-        Name::known(Known::TxState),
-        Value::Int(decision_value(decision)),
-    )?;
-    Ok(Record {
-        key: coordinator_key(alloc, id)?,
-        columns,
-    })
+    decision_row(alloc, coordinator_key(alloc, id)?, decision, now)
 }
 
 /// Whether a table is the coordinator's.

@@ -1,9 +1,8 @@
 use Rattle.std.proofs.Common.{◌≡◌, ◌<◌, ◌∙◌, List, [], ◌∷◌, ◌++◌, Some, None, ap, arith, length, slice_set, subst, sym}
-use Rattle.std.specs.Prelude.{false}
 use Rattle.std.specs.BTreeMap.{get}
 use Rattle.sdb_types.specs.Order.{key_cmp}
 use Rattle.sdb_record.specs.declared.write.Write.{Write}
-use Rattle.sdb_record.specs.Groups.{HaveLatest, IsLatest, has_group, placed}
+use Rattle.sdb_record.specs.Groups.{HaveLatest, IsLatest, placed}
 use Rattle.sdb_record.proofs.Grouping.{none_joins, on_ok, placed_fresh, placed_latest}
 use Rattle.sdb_record.proofs.Latest.{latest_at, latest_joined}
 use Rattle.sdb_record.proofs.groups.place.Goals.{in-Some+else-len-lt-MOST, in-None}
