@@ -69,7 +69,7 @@ noted_last_keeps read_set k f q h = ap is_some (value_last read_set k f q) ∙ a
 
 ---- the first that differs
 
-behind : (k q : Key) (rs : List Record) → starts_after k rs ≡ true → rise rs ≡ true → has_key rs q ≡ true → key_cmp k q ≡ Less
+pub behind : (k q : Key) (rs : List Record) → starts_after k rs ≡ true → rise rs ≡ true → has_key rs q ≡ true → key_cmp k q ≡ Less
 behind k q [] s h has = absurd (cc)
 behind k q (r ∷ rs) s h has =
     by_test (is_eq (key_cmp q r.key))
@@ -142,15 +142,15 @@ find_moved_is read_set now images (r ∷ rs) is =
     ∙ ap (cond (differs read_set images r.key) (Some r)) (find_moved_is read_set now images rs is)
 
 -- the first difference, as it is answered
-pub moved_told : (read_set seen now : List ReadRecord) (span : Span) (images ks : List Record) (r : Record) (k : Key) (found : Option Record) → read_set ≡ seen → AreKeysOf read_set span ks → now ≡ with_images [] images
+pub differs_first : (read_set seen now : List ReadRecord) (span : Span) (images ks : List Record) (r : Record) (k : Key) (found : Option Record) → read_set ≡ seen → AreKeysOf read_set span ks → now ≡ with_images [] images
     → Some r ≡ find (λ s. differs_from read_set now s.key) ks → k ≡ r.key → found ≡ base_at now r.key → IsFirstDifference seen span images k found
-moved_told read_set seen now span images ks r k found view keys is at key base =
+differs_first read_set seen now span images ks r k found view keys is at key base =
     subst (λ (ns : List ReadRecord). IsFirstDifference ns span images k found) view
     (subst (λ (x : Key). IsFirstDifference read_set span images x found) (sym key)
     (first_difference read_set span images ks r found keys (sym (find_moved_is read_set now images ks is) ∙ sym at) (base ∙ stands_is now images r.key is)))
 
-pub none_told : (read_set seen now : List ReadRecord) (span : Span) (images ks : List Record) → read_set ≡ seen → AreKeysOf read_set span ks → now ≡ with_images [] images → None ≡ find (λ s. differs_from read_set now s.key) ks → IsUnmoved seen span images
-none_told read_set seen now span images ks view keys is at =
+pub differs_nowhere : (read_set seen now : List ReadRecord) (span : Span) (images ks : List Record) → read_set ≡ seen → AreKeysOf read_set span ks → now ≡ with_images [] images → None ≡ find (λ s. differs_from read_set now s.key) ks → IsUnmoved seen span images
+differs_nowhere read_set seen now span images ks view keys is at =
     subst (λ (ns : List ReadRecord). IsUnmoved ns span images) view (none_differs read_set span images ks keys (sym (find_moved_is read_set now images ks is) ∙ sym at))
 
 ---- what is kept is fine

@@ -12,4 +12,5 @@ mod Forgotten
 mod Firsts
 mod Kept
 mod Among
+mod Filled
 pub mod Public

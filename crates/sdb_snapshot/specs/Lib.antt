@@ -8,3 +8,4 @@ pub mod Seen
 pub mod Spans
 pub mod Entries
 pub mod Places
+pub mod Filled

@@ -6,13 +6,13 @@ ghost use Rattle.std.specs.Map.{keys_of};
 ghost use Rattle.std.specs.Map.Iter.{deref_pair};
 ghost use Rattle.sdb_types.specs.Order.{key_cmp, same_key};
 ghost use Rattle.sdb_snapshot.specs.Entries.{value_at, with_value};
-ghost use Rattle.sdb_snapshot.specs.Places.{is_key_at as is_key_at_lem, keys_among as keys_among_lem, AreKeysIn};
+ghost use Rattle.sdb_snapshot.specs.Places.{is_key_at as is_key_at_lem, keys_among as keys_among_lem, AreKeysIn, HaveIndexes};
+ghost use Rattle.sdb_snapshot.specs.Filled.{AreOnce};
 
 use crate::prefix::cut;
 use sdb_ordered::least_key;
-use sdb_types::{Columns, Duplicate, Key, NoMemory, Record, Records, Seq, Span};
+use sdb_types::{Columns, Duplicate, Key, NoMemory, Record, Records, Seq, Span, find_rising};
 use std::alloc::Global;
-use std::cmp::Ordering;
 use std::collections::BTreeMap;
 use std::marker::Model;
 
@@ -76,21 +76,27 @@ fn keys_among(
     Ok(found)
 }
 
-// What a tree has at a key. Most keys come in their order, and are then looked for again: so the tree's last key is asked first.
+// What a tree has at a key. Most keys come in their order, and are then looked for again.
 fn index_of(places: &BTreeMap<Key, usize>, key: &Key) -> Option<usize>
     ensures { result ≡ get key_cmp places.now key.now }
 {
-    if let Some((last, i)) = places.last_key_value() {
-        match last.compare(key) {
-            Ordering::Less => return None,
-            Ordering::Equal => return Some(*i),
-            Ordering::Greater => {}
-        }
-    }
-    match places.get(key) {
+    match find_rising(places, key) {
         Some(i) => Some(*i),
         None => None,
     }
+}
+
+// A tree of the places of entries, each of a key of its own.
+fn places_of<V>(alloc: Global, entries: &[(Key, V)]) -> Result<BTreeMap<Key, usize>, NoMemory>
+    requires { AreOnce (keys_of entries.now) }
+    ensures { IfOk result (λ places. HaveIndexes (keys_of entries.now) (get key_cmp places)) }
+{
+    let mut places = Seq::new(alloc);
+    for entry in entries {
+        let place = places.len();
+        places.push((entry.0.copy()?, place))?;
+    }
+    Ok(BTreeMap::from_iter(alloc, places.into_vec())?)
 }
 
 impl<V> KeyMap<V> {
@@ -226,6 +232,19 @@ impl<V> KeyMap<V> {
     {
         self.places.insert(key.copy()?, self.entries.len())?;
         self.entries.push((key, value))
+    }
+
+    /// Puts entries, each of a key of its own, in the place of all others. Their tree is built at once.
+    pub fn fill(&mut self, entries: Seq<(Key, V)>) -> Result<(), NoMemory>
+    where
+        V: Drop,
+        requires { AreOnce (keys_of entries) }
+        ensures ok { OnOk result (self.new ≡ entries) }
+        ensures err { OnErr result (self.new ≡ self.old) }
+    {
+        self.places = places_of(self.alloc, entries.as_slice())?;
+        self.entries = entries;
+        Ok(())
     }
 
     /// Puts a value at a key. A key that is there keeps its place, and a new one goes last.

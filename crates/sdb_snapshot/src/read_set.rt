@@ -1,24 +1,27 @@
 //! What was found at the keys that were read.
-ghost use Rattle.std.specs.Prelude.{◌≡◌, ◌++◌, [], ◌∷◌, IfOk, OnOk, OnErr, IfSome, length, take, false};
+ghost use Rattle.std.specs.Prelude.{◌≡◌, ◌++◌, [], ◌∷◌, IfOk, OnOk, OnErr, IfSome, length, take, map, true, false};
 ghost use Rattle.std.specs.Option.{option_copied};
+ghost use Rattle.sdb_types.specs.Contents.{rise};
 ghost use Rattle.sdb_snapshot.specs.Entries.{value_at};
 ghost use Rattle.sdb_snapshot.specs.Sets.{StartsWith};
 ghost use Rattle.sdb_snapshot.specs.Reads.{AreKeysOf, base_at, is_key_read as is_key_read_lem, record_read_at, with_images, with_read_record};
+ghost use Rattle.sdb_snapshot.specs.Filled.{found_in};
 
 use crate::KeyMap;
-use sdb_types::{Duplicate, Key, NoMemory, Record, Records, Span};
+use sdb_types::{Duplicate, Key, NoMemory, Record, Records, Seq, Span};
 use std::alloc::Global;
 use std::marker::Model;
 
 /// What was found at each key that was read, in the order of first reading. The keys of a span are found without the others.
 pub struct ReadSet {
+    alloc: Global,
     found: KeyMap<Option<Record>>,
 }
 
 // By hand: each drop is then one call, where a derived one is written out at each exit, with a call for each field.
 impl Drop for ReadSet {
     fn drop(self) {
-        let ReadSet { found: _ } = self;
+        let ReadSet { alloc: _, found: _ } = self;
     }
 }
 
@@ -31,11 +34,23 @@ impl Model for ReadSet {
     ghost view = { λ n. n.found };
 }
 
+// The records of a scan by their keys.
+fn found_of(alloc: Global, records: Records) -> Result<Seq<(Key, Option<Record>)>, NoMemory>
+    ensures { IfOk result (λ found. found ≡ map found_in records) }
+{
+    let mut found = Seq::new(alloc);
+    for rec in records.into_vec() {
+        found.push((rec.key.copy()?, Some(rec)))?;
+    }
+    Ok(found)
+}
+
 impl ReadSet {
     pub fn new(alloc: Global) -> ReadSet
         ensures { result ≡ [] }
     {
         ReadSet {
+            alloc,
             found: KeyMap::new(alloc),
         }
     }
@@ -116,8 +131,18 @@ impl ReadSet {
         self.found.truncate(len);
     }
 
-    /// Adds each record of a scan whose key was not read: all or, without memory, none.
-    pub fn record_all(&mut self, records: &[Record]) -> Result<(), NoMemory>
+    // Adds the records of a scan where no key was read.
+    fn fill(&mut self, records: Records) -> Result<(), NoMemory>
+        requires empty { self.old ≡ [] }
+        requires rise { rise records ≡ true }
+        ensures ok { OnOk result (self.new ≡ with_images self.old records) }
+        ensures err { OnErr result (self.new ≡ self.old) }
+    {
+        self.found.fill(found_of(self.alloc, records)?)
+    }
+
+    // Adds each record of a scan whose key was not read: all or, without memory, none.
+    fn add(&mut self, records: &[Record]) -> Result<(), NoMemory>
         ensures ok { OnOk result (self.new ≡ with_images self.old records.now) }
         ensures err { OnErr result (self.new ≡ self.old) }
     {
@@ -128,6 +153,19 @@ impl ReadSet {
                 self.cut(len);
                 Err(NoMemory)
             }
+        }
+    }
+
+    /// Adds each record of a scan, in the order of their keys, whose key was not read: all or, without memory, none.
+    pub fn record_all(&mut self, records: Records) -> Result<(), NoMemory>
+        requires { rise records ≡ true }
+        ensures ok { OnOk result (self.new ≡ with_images self.old records) }
+        ensures err { OnErr result (self.new ≡ self.old) }
+    {
+        if self.found.len() == 0 {
+            self.fill(records)
+        } else {
+            self.add(records.as_slice())
         }
     }
 

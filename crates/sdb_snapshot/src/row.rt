@@ -24,8 +24,8 @@ fn lay_user(columns: &mut Columns, pairs: &[Pair]) -> Result<(), NoMemory>
 fn user_columns(alloc: Global, columns: &Columns) -> Result<Columns, NoMemory>
     ensures { IfOk result (λ user. user ≡ user_columns_lem columns.now) }
 {
-    let _length = columns.len();
-    let mut user = Columns::new(alloc);
+    let length = columns.len();
+    let mut user = Columns::with_room(alloc, length)?;
     lay_user(&mut user, columns.pairs())?;
     Ok(user)
 }

@@ -153,6 +153,7 @@ impl Snapshot {
 
     // Finds the first difference between what was read and a scan.
     fn find_moved(&self, span: &Span, images: &Records) -> Result<(), NoteRefused>
+        requires { are_rows_of span.now images.now ≡ true }
         ensures unmoved { OnOk result (IsUnmoved self.now.read_set span.now images.now) }
         ensures differs { (key : KeyValue) (found : Option RecordValue) → result ≡ Err (refused_note.Differs key found) → IsFirstDifference self.now.read_set span.now images.now key found }
     {
@@ -160,8 +161,9 @@ impl Snapshot {
         if keys.len() == 0 {
             return Ok(());
         }
+        let rows = images.copy()?;
         let mut now = ReadSet::new(self.alloc);
-        now.record_all(images.as_slice())?;
+        now.record_all(rows)?;
         match first_changed(&self.read_set, &now, keys.as_slice()) {
             Some(rec) => Err(NoteRefused::Differs(rec.key.copy()?, now.base(&rec.key)?)),
             None => Ok(()),
@@ -169,14 +171,15 @@ impl Snapshot {
     }
 
     // Records a scan that differs nowhere.
-    fn note_rows(&mut self, scan: Scan, images: &Records) -> Result<(), NoMemory>
-        requires { AreCommitted images.now }
-        ensures ok { OnOk result (self.new ≡ record self.old { read_set = with_images self.old.read_set images.now; scans = self.old.scans ++ scan ∷ [] }) }
+    fn note_rows(&mut self, scan: Scan, images: Records) -> Result<(), NoMemory>
+        requires rows { are_rows_of scan.span images ≡ true }
+        requires committed { AreCommitted images }
+        ensures ok { OnOk result (self.new ≡ record self.old { read_set = with_images self.old.read_set images; scans = self.old.scans ++ scan ∷ [] }) }
         ensures err { OnErr result (self.new ≡ self.old) }
     {
         let len = self.scans.len();
         self.scans.push(scan)?;
-        match self.read_set.record_all(images.as_slice()) {
+        match self.read_set.record_all(images) {
             Ok(()) => Ok(()),
             Err(NoMemory) => {
                 self.scans.cut(len);
@@ -199,7 +202,7 @@ impl Snapshot {
         match self.find_moved(&span, &images) {
             Ok(()) => {
                 let found = versions_of(self.alloc, images.as_slice())?;
-                self.note_rows(Scan { span, found }, &images)?;
+                self.note_rows(Scan { span, found }, images)?;
                 Ok(())
             }
             Err(refused) => Err(refused),

@@ -1,6 +1,6 @@
 use Rattle.std.proofs.Common.{ℕ, length, take, ap, ◌∙◌}
 use Rattle.sdb_snapshot.proofs.Fronts.{starts_take}
-use Rattle.sdb_snapshot.proofs.read_set.ReadSet.record_all.Goals as goal
+use Rattle.sdb_snapshot.proofs.read_set.ReadSet.add.Goals as goal
 
 pub returns-in-Err-clause-err : goal.returns-in-Err-clause-err
 returns-in-Err-clause-err c =
