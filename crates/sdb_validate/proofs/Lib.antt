@@ -1,6 +1,7 @@
 mod Firsts
 mod Merges
 mod Ordered
+mod Paired
 mod Ranges
 mod Rescans
 mod Trees

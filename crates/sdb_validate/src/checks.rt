@@ -1,11 +1,11 @@
 //! The extra reads, made from what a transaction read and wrote.
-ghost use Rattle.std.specs.Prelude.{◌≡◌, IfOk, OnOk, ◌++◌, filter, not, map};
-ghost use Rattle.std.specs.Option.{option_copied};
+ghost use Rattle.std.specs.Prelude.{◌≡◌, IfOk, OnOk, ◌++◌, false, filter, not, map, slice_get};
+ghost use Rattle.std.specs.Option.{option_copied, option_map_or};
 ghost use Rattle.std.specs.BTreeMap.{get};
 ghost use Rattle.std.specs.FinMap as fin;
 ghost use Rattle.sdb_types.specs.declared.key.Key.{Key as KeyValue};
 ghost use Rattle.sdb_types.specs.Contents.{in_span};
-ghost use Rattle.sdb_types.specs.Order.{key_cmp};
+ghost use Rattle.sdb_types.specs.Order.{key_cmp, same_key};
 ghost use Rattle.sdb_phases.specs.Checks.{with_reads, wished_version, base_of, check_of_read, check_of_scan, checks_of, wanted as wanted_lem};
 ghost use Rattle.sdb_validate.specs.Rescan.{expected_of_written, reads_rise, wanted_of_read};
 ghost use Rattle.sdb_record.specs.Among.{is_written};
@@ -14,7 +14,7 @@ use crate::key_map::ExpectedMap;
 use sdb_ordered::least_key;
 use sdb_phases::{Check, Checks, Expectations, Expected, Target, Wanted};
 use sdb_record::{Read, Reads, Scan, Scans, Write, Writes, is_same_version, version_of};
-use sdb_types::{Duplicate, Key, NoMemory, Request, Seq, Span, TxId};
+use sdb_types::{Duplicate, Key, NoMemory, Request, Seq, Span, TxId, find_rising};
 use std::alloc::Global;
 use std::collections::BTreeMap;
 
@@ -138,11 +138,34 @@ fn bases_of(alloc: Global, own: &[Write]) -> Result<Bases, NoMemory>
 {
     let mut bases = BTreeMap::new(alloc);
     for write in own {
-        if bases.get(&write.key).is_none() {
+        if find_rising(&bases, &write.key).is_none() {
             bases.insert(write.key.copy()?, version_of(&write.base))?;
         }
     }
     Ok(bases)
+}
+
+// Whether the i-th write is of a key.
+fn is_write_of(own: &[Write], i: usize, key: &Key) -> bool
+    ensures { result ≡ option_map_or (λ w. same_key key.now w.key) (slice_get own.now i) false }
+{
+    match own.get(i) {
+        Some(write) => key.compare(&write.key).is_eq(),
+        None => false,
+    }
+}
+
+// The reads without the first ones, as long as the i-th is of the key of the i-th write: where a transaction writes each key
+// that it reads, in this order, none is left.
+fn unpaired<'a>(own: &[Write], reads: &'a [Read]) -> &'a [Read]
+    ensures { filter (λ r. not (is_written own.now r.key)) result.now ≡ filter (λ r. not (is_written own.now r.key)) reads.now }
+{
+    for (i, read) in reads.iter().enumerate() {
+        if !is_write_of(own, i, &read.key) {
+            return &reads[i..];
+        }
+    }
+    &[]
 }
 
 fn put_rereads(
@@ -183,9 +206,13 @@ fn put_rescans(
 pub fn checks(alloc: Global, reads: &Reads, scans: &Scans, own: &Writes) -> Result<Checks, NoMemory>
     ensures { IfOk result (λ checks. checks ≡ checks_of own.now reads.now scans.now) }
 {
-    let bases = bases_of(alloc, own.as_slice())?;
+    let rest = unpaired(own.as_slice(), reads.as_slice());
     let mut checks = Seq::new(alloc);
-    put_rereads(&mut checks, &bases, own.as_slice(), reads.as_slice())?;
+    if rest.is_empty() && scans.is_empty() {
+        return Ok(checks);
+    }
+    let bases = bases_of(alloc, own.as_slice())?;
+    put_rereads(&mut checks, &bases, own.as_slice(), rest)?;
     put_rescans(alloc, &mut checks, &bases, own.as_slice(), scans.as_slice())?;
     Ok(checks)
 }
