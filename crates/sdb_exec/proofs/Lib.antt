@@ -12,4 +12,5 @@ mod Whole
 mod InOrder
 mod Fits
 mod Misfits
+mod Firsts
 pub mod Public

@@ -5,13 +5,20 @@ ghost use Rattle.sdb_schema.specs.Table.{rises};
 ghost use Rattle.sdb_model.specs.Rows.{at_kind as at_kind_lem, literal_at as literal_at_lem, order_names};
 ghost use Rattle.sdb_model.specs.Exec.{with_sets, with_named, literal_in, key_of};
 
-use crate::column::{columns_rise, kind_near};
+use crate::column::columns_rise;
 use crate::read::{fits_int, is_key_name, kind_of, value_beside};
 use sdb_model::Insert;
 use sdb_record::{Change, Changes, Image, Keyed};
-use sdb_schema::{Kind, Order, Table};
+use sdb_schema::{Kind, Order, Table, find_column_near};
 use sdb_types::{Columns, Duplicate, Key, Name, NoMemory, Pair, Seq, Value, Values};
 use std::alloc::Global;
+
+// Where a column is looked for first: among those of the table as `find_column_near` does, and among those of a row as `set_near` does.
+#[derive(Drop)]
+struct Places {
+    table: usize,
+    row: usize,
+}
 
 fn at_kind(kind: Kind, literal: &Value) -> Result<Value, NoMemory>
     ensures { IfOk result (λ v. v ≡ at_kind_lem kind literal.now) }
@@ -29,18 +36,23 @@ pub fn literal_at(table: &Table, name: &Name, literal: &Value) -> Result<Value, 
     at_kind(kind_of(table, name), literal)
 }
 
-// The same, of a table whose columns may be in order, and of a column that is looked for as `find_column_near` does.
-fn literal_near(
+// The name and the value of a column of a row that a literal gives, of a table whose columns may be in order, and of a column that is looked
+// for as `find_column_near` does. The name is the table's own, which all rows share.
+fn column_near(
     table: &Table,
     rising: bool,
     place: &mut usize,
     name: &Name,
     literal: &Value,
-) -> Result<Value, NoMemory>
+) -> Result<(Name, Value), NoMemory>
     requires { rising ≡ true → rises table.now.columns ≡ true }
-    ensures { IfOk result (λ v. v ≡ literal_at_lem table.now name.now literal.now) }
+    ensures name { IfOk result (λ x. x.0 ≡ name.now) }
+    ensures value { IfOk result (λ x. x.1 ≡ literal_at_lem table.now name.now literal.now) }
 {
-    at_kind(kind_near(table, rising, place, name), literal)
+    match find_column_near(table.columns.as_slice(), rising, place, name) {
+        Some(column) => Ok((column.name.copy()?, at_kind(column.kind, literal)?)),
+        None => Ok((name.copy()?, at_kind(Kind::Text, literal)?)),
+    }
 }
 
 fn put_sets(
@@ -53,10 +65,10 @@ fn put_sets(
     ensures { IfOk result (λ after. after ≡ with_sets table.now sets.now columns) }
 {
     let mut columns = columns;
-    let mut place = 0;
+    let mut places = Places { table: 0, row: 0 };
     for pair in sets {
-        let value = literal_near(table, rising, &mut place, &pair.name, &pair.value)?;
-        columns.set(pair.name.copy()?, value)?;
+        let (name, value) = column_near(table, rising, &mut places.table, &pair.name, &pair.value)?;
+        columns.set_near(&mut places.row, name, value)?;
     }
     Ok(columns)
 }
@@ -71,7 +83,7 @@ pub fn set_columns(table: &Table, sets: &[Pair], columns: Columns) -> Result<Col
 fn put_named(
     table: &Table,
     rising: bool,
-    place: &mut usize,
+    places: &mut Places,
     names: &[Name],
     values: &[Value],
     columns: Columns,
@@ -83,12 +95,10 @@ fn put_named(
         (Some((name, ns)), Some((value, vs))) => {
             let mut columns = columns;
             if !is_key_name(table, name) {
-                columns.set(
-                    name.copy()?,
-                    literal_near(table, rising, place, name, value)?,
-                )?;
+                let (own, value) = column_near(table, rising, &mut places.table, name, value)?;
+                columns.set_near(&mut places.row, own, value)?;
             }
-            put_named(table, rising, place, ns, vs, columns)
+            put_named(table, rising, places, ns, vs, columns)
         }
         _ => Ok(columns),
     }
@@ -103,7 +113,15 @@ pub fn named_columns(
 ) -> Result<Columns, NoMemory>
     ensures { IfOk result (λ after. after ≡ with_named table.now names.now values.now columns) }
 {
-    put_named(table, columns_rise(table), &mut 0, names, values, columns)
+    let mut places = Places { table: 0, row: 0 };
+    put_named(
+        table,
+        columns_rise(table),
+        &mut places,
+        names,
+        values,
+        columns,
+    )
 }
 
 fn literal_of(table: &Table, insert: &Insert, name: &Name) -> Result<Value, NoMemory>

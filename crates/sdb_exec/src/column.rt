@@ -51,14 +51,3 @@ pub fn kind_where(table: &Table, rising: bool, name: &Name) -> Kind
         None => Kind::Text,
     }
 }
-
-/// The same, of a column that is looked for as `find_column_near` does.
-pub fn kind_near(table: &Table, rising: bool, place: &mut usize, name: &Name) -> Kind
-    requires { rising ≡ true → rises table.now.columns ≡ true }
-    ensures { result ≡ kind_of_column table.now name.now }
-{
-    match find_column_near(table.columns.as_slice(), rising, place, name) {
-        Some(column) => column.kind,
-        None => Kind::Text,
-    }
-}

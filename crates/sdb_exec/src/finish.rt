@@ -70,7 +70,7 @@ fn insert(alloc: Global, table: &Table, insert: &Insert, rows: &[Image]) -> Step
         table,
         insert.columns.as_slice(),
         insert.values.as_slice(),
-        Columns::new(alloc),
+        Columns::with_room(alloc, insert.columns.len())?,
     )?;
     let changes = one_change(alloc, key, columns)?;
     Ok(PlanStep::Finished(Answer::Count(1), changes))

@@ -4,9 +4,9 @@ ghost use Rattle.std.specs.Option.{option_map, option_map_or};
 ghost use Rattle.std.specs.List.{list_any};
 ghost use Rattle.sdb_types.specs.Columns.{is_null as is_null_lem};
 ghost use Rattle.sdb_types.specs.declared.value.Value.TheVariants as value;
-ghost use Rattle.sdb_schema.specs.Table.{is_table, rises, key_names as key_names_lem};
+ghost use Rattle.sdb_schema.specs.Table.{is_table, rises, key_names};
 ghost use Rattle.sdb_model.specs.Rows.{same_name};
-ghost use Rattle.sdb_model.specs.Refused.{suits as suits_lem, is_within as is_within_lem, is_unknown as is_unknown_lem, names_key as names_key_lem, is_of_other_kind as is_of_other_kind_lem, is_null_in_key as is_null_in_key_lem, is_out_of_range as is_out_of_range_lem, is_too_long as is_too_long_lem, is_named_by, or_next, repeat_place, refusal, first_place, written as written_lem, mentions as mentions_lem, key_refusal, literal_refusal, missing_refusal, refusal_on};
+ghost use Rattle.sdb_model.specs.Refused.{suits as suits_lem, is_within as is_within_lem, is_unknown as is_unknown_lem, names_key as names_key_lem, is_of_other_kind as is_of_other_kind_lem, is_null_in_key as is_null_in_key_lem, is_out_of_range as is_out_of_range_lem, is_too_long as is_too_long_lem, is_named_by, or_next, repeat_place, refusal, first_place, written as written_lem, mentions as mentions_lem, key_refusal, literal_refusal, lacking, missing_refusal, refusal_on};
 ghost use Rattle.sdb_exec.specs.Misfits.{is_misfit as is_misfit_lem, has_misfit as has_misfit_lem};
 ghost use Rattle.sdb_exec.specs.Risen.{starts_above as starts_above_lem, names_rise as names_rise_lem};
 
@@ -15,8 +15,8 @@ use crate::is_key_name;
 use crate::mention::{mentions_of, written_count};
 use crate::read::fits_int;
 use sdb_model::{Insert, Mention, Refusal, Statement};
-use sdb_schema::{Kind, Table};
-use sdb_types::{Duplicate, Name, Names, NoMemory, Seq, Value};
+use sdb_schema::{Kind, Order, Table};
+use sdb_types::{Duplicate, Name, NoMemory, Value};
 use std::alloc::Global;
 use std::collections::BTreeSet;
 use std::marker::Model;
@@ -311,27 +311,38 @@ fn find_long(mentions: &[Mention]) -> Option<usize>
     mentions.iter().position(|mention| is_too_long(mention))
 }
 
-// The columns of the primary key.
-fn key_names(alloc: Global, table: &Table) -> Result<Names, NoMemory>
-    ensures { IfOk result (λ names. names ≡ key_names_lem table.now) }
-{
-    let mut names = table.partition.copy()?;
-    for order in table.clustering.as_slice() {
-        names.push(order.name.copy()?)?;
-    }
-    Ok(names)
-}
-
 fn is_listed(names: &[Name], name: &Name) -> bool
     ensures { result ≡ list_any (λ n. same_name n name.now) names.now }
 {
     names.iter().any(|n| n.cmp(name).is_eq())
 }
 
-fn find_unlisted(keys: &[Name], names: &[Name]) -> Option<usize>
+fn find_unlisted_name(keys: &[Name], names: &[Name]) -> Option<usize>
     ensures { result ≡ position (λ key. not (list_any (λ n. same_name n key) names.now)) keys.now }
 {
     keys.iter().position(|key| !is_listed(names, key))
+}
+
+fn find_unlisted_order(orders: &[Order], names: &[Name]) -> Option<usize>
+    ensures { result ≡ position (λ order. not (list_any (λ n. same_name n order.name) names.now)) orders.now }
+{
+    orders
+        .iter()
+        .position(|order| !is_listed(names, &order.name))
+}
+
+// The index, among the columns of the primary key, of the first that isn't among these names.
+fn find_unlisted(table: &Table, names: &[Name]) -> Option<usize>
+    ensures { result ≡ position (λ key. not (list_any (λ n. same_name n key) names.now)) (key_names table.now) }
+{
+    let partition = table.partition.as_slice();
+    if let Some(i) = find_unlisted_name(partition, names) {
+        return Some(i);
+    }
+    match find_unlisted_order(table.clustering.as_slice(), names) {
+        Some(i) => Some(partition.len() + i),
+        None => None,
+    }
 }
 
 fn column_fault(
@@ -394,19 +405,18 @@ fn key_fault(table: &Table, statement: &Statement, written: &[Mention]) -> Optio
 }
 
 // The first column of the key that an insert lacks.
-fn insert_fault(keys: &[Name], insert: &Insert) -> Option<Fault>
-    ensures { result ≡ refusal 14 (first_place (λ key. not (list_any (λ n. same_name n key) insert.now.columns)) keys.now) }
+fn insert_fault(table: &Table, insert: &Insert) -> Option<Fault>
+    ensures { result ≡ refusal 14 (lacking table.now insert.now.columns) }
 {
-    of_kind(14, find_unlisted(keys, insert.columns.as_slice()))
+    of_kind(14, find_unlisted(table, insert.columns.as_slice()))
 }
 
-fn missing_fault(table: &Table, keys: &[Name], statement: &Statement) -> Option<Fault>
-    requires { keys.now ≡ key_names_lem table.now }
+fn missing_fault(table: &Table, statement: &Statement) -> Option<Fault>
     ensures { result ≡ missing_refusal table.now statement.now }
 {
     match statement {
-        Statement::Insert(s) => insert_fault(keys, s),
-        Statement::Upsert(s) => insert_fault(keys, s),
+        Statement::Insert(s) => insert_fault(table, s),
+        Statement::Upsert(s) => insert_fault(table, s),
         _ => None,
     }
 }
@@ -422,12 +432,10 @@ fn written_among<'a>(statement: &Statement, mentions: &'a [Mention]) -> &'a [Men
 fn first_fault(
     alloc: Global,
     table: &Table,
-    keys: &[Name],
     statement: &Statement,
     mentions: &[Mention],
 ) -> Result<Option<Fault>, NoMemory>
     requires columns { rises table.now.columns ≡ true }
-    requires keys { keys.now ≡ key_names_lem table.now }
     requires mentions { mentions.now ≡ mentions_lem statement.now }
     ensures { IfOk result (λ found. found ≡ refusal_on table.now statement.now) }
 {
@@ -441,7 +449,7 @@ fn first_fault(
     }
     match literal_fault(table, misfits, mentions) {
         Some(found) => Ok(Some(found)),
-        None => Ok(missing_fault(table, keys, statement)),
+        None => Ok(missing_fault(table, statement)),
     }
 }
 
@@ -455,18 +463,11 @@ pub fn refusal_on_table(
     requires { is_table table.now ≡ true }
     ensures { IfOk result (λ r. r ≡ refusal_on table.now statement.now) }
 {
-    let keys = key_names(alloc, table)?;
     let mentions = mentions_of(alloc, statement)?;
     if mentions.len() >= MOST {
         return Err(NoMemory);
     }
-    let found = first_fault(
-        alloc,
-        table,
-        keys.as_slice(),
-        statement,
-        mentions.as_slice(),
-    )?;
+    let found = first_fault(alloc, table, statement, mentions.as_slice())?;
     match found {
         None => Ok(None),
         Some(fault) => Ok(Some(Refusal {

@@ -18,7 +18,7 @@ use crate::marks::{
 };
 use hex::FromHexError;
 use sdb_model::{Placed, Sign, Token};
-use sdb_types::{Name, NameRefused, NoMemory, Octets, Seq, Txt};
+use sdb_types::{Name, NoMemory, Octets, Seq, Txt};
 use std::alloc::Global;
 
 /// A token, and how many bytes it takes.
@@ -35,11 +35,8 @@ fn name_token(alloc: Global, word: &[u8]) -> Result<Token, NoMemory>
     let Ok(text) = str::from_utf8(word) else {
         unreachable!()
     };
-    match Name::new(alloc, text) {
-        Ok(name) => Ok(Token::Name(name)),
-        Err(NameRefused::NoMemory) => Err(NoMemory),
-        Err(NameRefused::BadName) => unreachable!(),
-    }
+    let name = Name::from_string(String::from_str(alloc, text)?)?;
+    Ok(Token::Name(name))
 }
 
 // A keyword, or a name.

@@ -66,7 +66,7 @@ fn names_on<'a>(
 ) -> Parsed<'a, Names>
     ensures { Steps (λ x. (x.0, x.1.now)) result (spec.items_on spec.name_at (spec.next_sign sign.Comma) end turns (first ∷ []) tokens.now) }
 {
-    let mut names = Names::new(alloc);
+    let mut names = Names::with_room(alloc, turns / 2 + 1)?;
     names.push(first)?;
     let mut rest = tokens;
     for _ in 0..turns {
@@ -100,7 +100,7 @@ fn literals_on<'a>(
 ) -> Parsed<'a, Values>
     ensures { Steps (λ x. (x.0, x.1.now)) result (spec.items_on spec.literal_at (spec.next_sign sign.Comma) end turns (first ∷ []) tokens.now) }
 {
-    let mut literals = Values::new(alloc);
+    let mut literals = Values::with_room(alloc, turns / 2 + 1)?;
     literals.push(first)?;
     let mut rest = tokens;
     for _ in 0..turns {
