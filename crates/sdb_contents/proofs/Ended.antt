@@ -1,14 +1,12 @@
 -- When the COMMITs of a client's transactions were accepted.
-use Rattle.std.proofs.Common.{◌≡◌, ℕ, zero, suc, ◌+◌, ◌-◌, ◌<◌, ◌≤◌, Bool, true, false, List, [], ◌∷◌, ◌++◌, length, drop, Option, Some, None, refl, sym, ap, ◌∙◌, arith}
-use Rattle.std.specs.Prelude.{◌==◌, if◌then◌else◌, find, reverse, unwrap_or, slice_index_or}
+use Rattle.std.proofs.Common.{◌≡◌, ℕ, zero, suc, Bool, true, false, List, [], ◌∷◌, Option, Some, None, refl, sym, ap, ◌∙◌, arith}
+use Rattle.std.specs.Prelude.{◌==◌, if◌then◌else◌, find, unwrap_or}
 use Rattle.std.specs.Option.{option_and_then, option_map_or}
 use Rattle.std.proofs.lemmas.Bool.Decides.{nat_tests}
-use Rattle.std.proofs.lemmas.List.{drop_all, drop_more, reverse-append}
 use Rattle.sdb_contents.specs.Types.{Event, TxId}
 use Rattle.sdb_model.specs.Sql.{reads_commit}
 use Rattle.sdb_model.specs.Transactions.{Executed as SaidOf, begins, client_of, commit_of, ends, from_begin, last_prepare, ordinal_of, point, rest_of, statements_by}
-use Rattle.sdb_contents.specs.declared.executed.Executed.{Executed}
-use Rattle.sdb_contents.specs.Commits.{all_executed, commit_at, commits_of, first_commit, executed_of, take_where}
+use Rattle.sdb_contents.specs.Commits.{commit_at, commits_of, first_commit}
 
 ---- what ends a transaction
 
@@ -60,49 +58,3 @@ commit_is events id = since_is (ordinal_of id) (statements_by (client_of id) eve
 -- a transaction without a prepare has its point there
 pub read_only : (events : List Event) (id : TxId) → last_prepare events id ≡ None → commit_at (ordinal_of id) (commits_of (statements_by (client_of id) events)) ≡ point events id
 read_only events id none = sym (ap (λ o. unwrap_or o (option_map_or (λ (s : SaidOf). s.accepted) (commit_of events id) 0)) none ∙ commit_is events id)
-
----- one more statement, from the last
-
-pub nothing_found : (ss : List Executed) → [] ≡ reverse (commits_of (all_executed (drop (length ss) ss)))
-unfolding commits_of
-nothing_found ss = ap (λ xs. reverse (commits_of (all_executed xs))) (sym (drop_all (length ss) ss (omega arith)))
-
-pub nothing_first : (ss : List Executed) → 0 ≡ first_commit (all_executed (drop (length ss) ss))
-unfolding first_commit
-nothing_first ss = ap (λ xs. first_commit (all_executed xs)) (sym (drop_all (length ss) ss (omega arith)))
-
-from_last : (ss : List Executed) (n : ℕ) (s : Executed) → 0 < n → n ≤ length ss → s ≡ slice_index_or ss (n - 1) s → drop (n - 1) ss ≡ s ∷ drop n ss
-from_last ss n s some within is =
-    drop_more ss (n - 1) s (below n (length ss) some within) ∙ ap (λ x. x ∷ drop (n - 1 + 1) ss) (sym is) ∙ ap (λ m. s ∷ drop m ss) (again n some)
-  where
-    below : (n m : ℕ) → 0 < n → n ≤ m → n - 1 < m
-    below n m a b = omega arith
-
-    again : (n : ℕ) → 0 < n → n - 1 + 1 ≡ n
-    again n a = omega arith
-
-first_more : (ss : List Executed) (n : ℕ) (s : Executed) → 0 < n → n ≤ length ss → s ≡ slice_index_or ss (n - 1) s → take_where (executed_of s) (first_commit (all_executed (drop n ss))) ≡ first_commit (all_executed (drop (n - 1) ss))
-unfolding first_commit
-first_more ss n s some within is = ap (λ xs. first_commit (all_executed xs)) (sym (from_last ss n s some within is))
-
-reverse_more : (s : SaidOf) (ss : List SaidOf) → (if begins s then reverse (commits_of ss) ++ first_commit ss ∷ [] else reverse (commits_of ss)) ≡ reverse (commits_of (s ∷ ss))
-unfolding commits_of
-reverse_more s ss = by (begins s)
-  where
-    by : (b : Bool) → (if b then reverse (commits_of ss) ++ first_commit ss ∷ [] else reverse (commits_of ss)) ≡ reverse (if b then first_commit ss ∷ commits_of ss else commits_of ss)
-    by true = sym (reverse-append (first_commit ss ∷ []) (commits_of ss))
-    by false = refl
-
-found_more : (ss : List Executed) (n : ℕ) (s : Executed) → 0 < n → n ≤ length ss → s ≡ slice_index_or ss (n - 1) s → (if begins (executed_of s) then reverse (commits_of (all_executed (drop n ss))) ++ first_commit (all_executed (drop n ss)) ∷ [] else reverse (commits_of (all_executed (drop n ss)))) ≡ reverse (commits_of (all_executed (drop (n - 1) ss)))
-found_more ss n s some within is = reverse_more (executed_of s) (all_executed (drop n ss)) ∙ ap (λ xs. reverse (commits_of (all_executed xs))) (sym (from_last ss n s some within is))
-
--- where what was found, and the event of the first COMMIT, are of the statements after it
-module _ (ss : List Executed) (n : ℕ) (s : Executed) (found : List ℕ) (first : ℕ) (some : 0 < n) (within : n ≤ length ss) (is : s ≡ slice_index_or ss (n - 1) s) (first_is : first ≡ first_commit (all_executed (drop n ss))) where
-  pub first_step : take_where (executed_of s) first ≡ first_commit (all_executed (drop (n - 1) ss))
-  first_step = ap (take_where (executed_of s)) first_is ∙ first_more ss n s some within is
-
-  pub found_step : found ≡ reverse (commits_of (all_executed (drop n ss))) → (if begins (executed_of s) then found ++ first ∷ [] else found) ≡ reverse (commits_of (all_executed (drop (n - 1) ss)))
-  found_step found_is =
-      ap (λ xs. if begins (executed_of s) then xs ++ first ∷ [] else xs) found_is
-      ∙ ap (λ m. if begins (executed_of s) then reverse (commits_of (all_executed (drop n ss))) ++ m ∷ [] else reverse (commits_of (all_executed (drop n ss)))) first_is
-      ∙ found_more ss n s some within is

@@ -13,6 +13,7 @@ mod Images
 mod OddRecords
 mod Closings
 mod Later
+mod Laters
 mod Saying
 mod Ended
 mod Prepared

@@ -1,17 +1,21 @@
 -- Whose prepare a record is.
-use Rattle.std.proofs.Common.{◌≡◌, ℕ, ◌<◌, ◌^◌, Bool, true, false, List, [], ◌∷◌, Option, Some, None, refl, sym, ap, ◌∙◌, arith}
-use Rattle.std.specs.Prelude.{◌==◌, ◌&&◌, ◌||◌, if◌then◌else◌}
-use Rattle.std.proofs.lemmas.Bool.Decides.{nat_tests}
-use Rattle.sdb_contents.specs.Types.{Record, State, TxId}
+use Rattle.std.proofs.Common.{◌≡◌, ℕ, ◌<◌, ◌^◌, Bool, true, false, List, [], ◌∷◌, Option, Some, None, refl, sym, ap, ◌∙◌, subst, eqb}
+use Rattle.std.proofs.lemmas.Bool.Decides.{Decides-eqb}
+use Rattle.std.specs.Prelude.{pos, ◌&&◌, ◌||◌, if◌then◌else◌}
+use Rattle.std.specs.Option.{option_map_or}
+use Rattle.std.specs.Cmp.{tied_itself, both_ways}
+use Rattle.std.specs.Ordering.{is_eq}
+use Rattle.sdb_contents.specs.Types.{Record, State, TxId, Value}
 use Rattle.sdb_types.specs.declared.record.Put.{Put}
 use Rattle.sdb_types.specs.declared.record.Request.TheVariants as ask
-use Rattle.sdb_types.specs.declared.record.State.TheVariants.{Deleted, Prepared}
+use Rattle.sdb_types.specs.declared.record.State.TheVariants.{Aborted, Committed, Deleted, Prepared}
 use Rattle.sdb_types.specs.declared.value.Value.TheVariants as value
 use Rattle.sdb_types.specs.Columns.{column}
 use Rattle.sdb_types.specs.Contents.{has_value, state_number, tx_id, tx_state}
 use Rattle.sdb_types.specs.TxId.{id_text}
-use Rattle.sdb_record.specs.Meta.{id_in}
-use Rattle.sdb_record.proofs.Public.{written}
+use Rattle.sdb_types.specs.ValueLaws.{value_total}
+use Rattle.sdb_record.specs.Meta.{id_in, id_in_value, state_in, state_in_value}
+use Rattle.sdb_record.proofs.Public.{has_int, has_value-is, id_of_text-id_text, id_of_text-is, state_value}
 use Rattle.sdb_contents.specs.Order.{is_of}
 use Rattle.sdb_model.specs.Transactions.{is_prepared_record, prepares}
 
@@ -19,39 +23,72 @@ use Rattle.sdb_model.specs.Transactions.{is_prepared_record, prepares}
 abbrev agrees : State → Record → Bool
 agrees s r = has_value (column r.columns tx_state) (value.Int (state_number s))
 
+has_id : (o : Option Value) (id : TxId) → id_in_value o ≡ Some id → has_value o (value.Text (id_text id.0)) ≡ true
+has_id None id h = absurd (cc)
+has_id (Some (value.Text text)) id h =
+    ap (λ t. has_value (Some (value.Text t)) (value.Text (id_text id.0))) (id_of_text-is text id h).1 ∙ ap is_eq (tied_itself value_total (value.Text (id_text id.0)))
+has_id (Some v) id h = absurd (cc)
+
+-- a record is a transaction's where its id is that which is read
+written : (o : Option Value) (id : TxId) (f : Option TxId) → id.0 < 2 ^ 128 → id_in_value o ≡ f → option_map_or (λ (x : TxId). eqb x.0 id.0) f false ≡ has_value o (value.Text (id_text id.0))
+written o id f small h =
+    both_ways _ _
+    (λ k. found f k h)
+    (λ k.
+    let e = ap id_in_value (has_value-is o (value.Text (id_text id.0)) k) ∙ id_of_text-id_text id.0 small in
+    let g : f ≡ Some id = sym h ∙ e in
+    ap (λ (x : Option TxId). option_map_or (λ (y : TxId). eqb y.0 id.0) x false) g ∙ (Decides-eqb id.0 id.0).1 refl)
+  where
+    found : (f : Option TxId) → option_map_or (λ (x : TxId). eqb x.0 id.0) f false ≡ true → id_in_value o ≡ f → has_value o (value.Text (id_text id.0)) ≡ true
+    found None k e = absurd (cc)
+    found (Some x) k e = subst (λ (n : ℕ). has_value o (value.Text (id_text n)) ≡ true) ((Decides-eqb x.0 id.0).0 k) (has_id o x e)
+
 wrote : (r : Record) (id : TxId) (f : Option TxId) → id.0 < 2 ^ 128 → id_in r.columns ≡ f → has_value (column r.columns tx_id) (value.Text (id_text id.0)) ≡ is_of id f
 wrote r id f small e = sym (written (column r.columns tx_id) id f small e)
 
-pub no_writer : (r : Record) (id : TxId) → id.0 < 2 ^ 128 → id_in r.columns ≡ None → is_prepared_record id r ≡ false
-no_writer r id small e = ap (λ b. (b && agrees Prepared r) || (b && agrees Deleted r)) (wrote r id None small e)
+-- a state that a prepare leaves
+abbrev pub is_open : Option State → Bool
+is_open None = false
+is_open (Some Prepared) = true
+is_open (Some Deleted) = true
+is_open (Some Committed) = false
+is_open (Some Aborted) = false
 
--- of its own writer, or of nobody
-by_writer : (r : Record) (id t : TxId) (b : Bool) → id.0 < 2 ^ 128 → id_in r.columns ≡ Some t → is_prepared_record t r ≡ b → is_prepared_record id r ≡ ((t.0 == id.0) && b)
-by_writer r id t b small e own = by (t.0 == id.0) refl
+open_state : (v : Option Value) → (has_value v (value.Int (pos 1)) || has_value v (value.Int (pos 2))) ≡ is_open (state_in_value v)
+open_state v = by (has_value v (value.Int (pos 1))) (has_value v (value.Int (pos 2))) refl refl
   where
-    same : (t.0 == id.0) ≡ true → t ≡ id
-    same h = ap (λ n. record { 0 = n }) (number t.0 id.0 h)
-      where
-        number : (m n : ℕ) → (m == n) ≡ true → m ≡ n
-        number m n h = grind (arith, nat_tests)
+    neither : (o : Option State) → state_in_value v ≡ o → has_value v (value.Int (pos 1)) ≡ false → has_value v (value.Int (pos 2)) ≡ false → false ≡ is_open o
+    neither None h p d = refl
+    neither (Some Prepared) h p d = sym p ∙ has_int v (pos 1) (state_value v Prepared h)
+    neither (Some Deleted) h p d = sym d ∙ has_int v (pos 2) (state_value v Deleted h)
+    neither (Some Committed) h p d = refl
+    neither (Some Aborted) h p d = refl
 
-    by : (x : Bool) → (t.0 == id.0) ≡ x → is_prepared_record id r ≡ (x && b)
-    by true h = ap (λ i. is_prepared_record i r) (sym (same h)) ∙ own
-    by false h = ap (λ b. (b && agrees Prepared r) || (b && agrees Deleted r)) (wrote r id (Some t) small e ∙ h)
+    by : (p d : Bool) → has_value v (value.Int (pos 1)) ≡ p → has_value v (value.Int (pos 2)) ≡ d → (p || d) ≡ is_open (state_in_value v)
+    by true d h k = sym (ap (λ o. is_open (state_in_value o)) (has_value-is v (value.Int (pos 1)) h))
+    by false true h k = sym (ap (λ o. is_open (state_in_value o)) (has_value-is v (value.Int (pos 2)) k))
+    by false false h k = neither (state_in_value v) refl h k
 
-pub by_it : (r : Record) (id t : TxId) → id.0 < 2 ^ 128 → id_in r.columns ≡ Some t → is_prepared_record t r ≡ true → is_prepared_record id r ≡ (t.0 == id.0)
-by_it r id t small e own = by_writer r id t true small e own ∙ and_true (t.0 == id.0)
+-- of its writer, where it is in such a state
+by_state : (r : Record) (id : TxId) (s : Option State) → state_in r.columns ≡ s → is_prepared_record id r ≡ (has_value (column r.columns tx_id) (value.Text (id_text id.0)) && is_open s)
+by_state r id s e = both (has_value (column r.columns tx_id) (value.Text (id_text id.0))) (agrees Prepared r) (agrees Deleted r)
+    ∙ ap (λ b. has_value (column r.columns tx_id) (value.Text (id_text id.0)) && b) (open_state (column r.columns tx_state) ∙ ap is_open e)
   where
-    and_true : (b : Bool) → (b && true) ≡ b
-    and_true true = refl
-    and_true false = refl
+    both : (a p d : Bool) → ((a && p) || (a && d)) ≡ (a && (p || d))
+    both true p d = refl
+    both false p d = refl
 
-pub by_nobody : (r : Record) (id t : TxId) → id.0 < 2 ^ 128 → id_in r.columns ≡ Some t → is_prepared_record t r ≡ false → is_prepared_record id r ≡ false
-by_nobody r id t small e own = by_writer r id t false small e own ∙ and_false (t.0 == id.0)
-  where
-    and_false : (b : Bool) → (b && false) ≡ false
-    and_false true = refl
-    and_false false = refl
+and_true : (b : Bool) → (b && true) ≡ b
+and_true true = refl
+and_true false = refl
+
+-- where it is in such a state, it is its writer's
+pub by_writer : (r : Record) (id : TxId) (s : Option State) (f : Option TxId) → id.0 < 2 ^ 128 → state_in r.columns ≡ s → is_open s ≡ true → id_in r.columns ≡ f → is_prepared_record id r ≡ is_of id f
+by_writer r id s f small e here w =
+    by_state r id s e
+    ∙ ap (λ b. has_value (column r.columns tx_id) (value.Text (id_text id.0)) && b) here
+    ∙ and_true (has_value (column r.columns tx_id) (value.Text (id_text id.0)))
+    ∙ wrote r id f small w
 
 ---- batches
 

@@ -7,6 +7,7 @@ pub mod Held
 pub mod Odd
 pub mod Refused
 pub mod Commits
+pub mod Later
 pub mod Order
 pub mod Stopped
 pub mod Writes

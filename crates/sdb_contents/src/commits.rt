@@ -1,64 +1,154 @@
 //! When the COMMITs of a client's transactions were accepted.
-ghost use Rattle.std.specs.Prelude.{◌≡◌, ◌++◌, ◌∷◌, [], if◌then◌else◌, IfOk, OnOk};
-ghost use Rattle.sdb_model.specs.Transactions.{begins as begins_lem, statements_by as statements_by_lem};
-ghost use Rattle.sdb_contents.specs.Commits.{executed_of, all_executed, commits_of, commit_at as commit_at_lem, take_where};
+ghost use Rattle.std.specs.Prelude.{◌≡◌, ◌++◌, ◌∷◌, [], if◌then◌else◌, IfOk, OnOk, List, ℕ};
+ghost use Rattle.std.specs.Option.{option_map};
+ghost use Rattle.sdb_model.specs.declared.event.Event.{Event as EventType};
+ghost use Rattle.sdb_model.specs.Sql.{reads_begin, reads_rollback};
+ghost use Rattle.sdb_model.specs.Transactions.{statements_by as statements_by_lem};
+ghost use Rattle.sdb_contents.specs.Commits.{commits_of, commit_at as commit_at_lem};
+ghost use Rattle.sdb_contents.specs.Later.{IsLater, begins_with, first_with, or_earlier, outcome_of as outcome_of_lem};
 
-use crate::executed::{Executed, begins, ends, is_commit, statements_by};
-use sdb_model::Event;
-use sdb_types::{NoMemory, Seq};
+use sdb_model::{Answer, Boxed, Event, Keyword};
+use sdb_sqltext::{reads_commit, reads_word};
+use sdb_types::{NoMemory, Seq, Txt};
 use std::alloc::Global;
 
-// The event that took the COMMIT by which an open transaction ends, with one more statement before the others.
-fn accepted(alloc: Global, executed: &Executed, later: u64) -> Result<u64, NoMemory>
-    ensures { IfOk result (λ n. n ≡ take_where (executed_of executed.now) later) }
+// What an answer does to the transaction of its statement.
+#[derive(Clone, Copy)]
+enum Outcome {
+    Done,
+    Conflict,
+    Other,
+}
+
+// What is known of a client's statements from an event on.
+#[derive(Drop)]
+struct Later {
+    // Of each transaction that begins, last to first, the event that took its COMMIT, and 0 where it has none.
+    commits: Vec<u64>,
+    // The same of a transaction that is open before.
+    first: u64,
+    // What the last answer does, to a statement that was taken before.
+    outcome: Option<Outcome>,
+}
+
+fn outcome_of(answer: &Answer) -> Outcome
+    ensures { result ≡ outcome_of_lem answer.now }
 {
-    if !ends(alloc, executed)? {
-        return Ok(later);
-    }
-    if is_commit(executed) {
-        Ok(executed.accepted)
-    } else {
-        Ok(0)
+    match answer {
+        Answer::Done => Outcome::Done,
+        Answer::Conflict(_, _) => Outcome::Conflict,
+        _ => Outcome::Other,
     }
 }
 
-// Adds a statement before others, whose transactions were added last to first.
-fn add_prepare(
-    alloc: Global,
-    found: &mut Vec<u64>,
-    executed: &Executed,
-    first: u64,
-) -> Result<(), NoMemory>
-    ensures { OnOk result (found.new.items ≡ (if begins_lem (executed_of executed.now) then found.old.items ++ first ∷ [] else found.old.items)) }
+// What the answer that a Take has does.
+fn given(answer: &Option<Boxed<Answer>>) -> Option<Outcome>
+    ensures { result ≡ option_map outcome_of_lem answer.now }
 {
-    if begins(alloc, executed)? {
-        found.push(first)?;
+    match answer {
+        Some(answer) => Some(outcome_of(answer.get())),
+        None => None,
+    }
+}
+
+// The later of two outcomes.
+fn last_of(later: Option<Outcome>, earlier: Option<Outcome>) -> Option<Outcome>
+    ensures { result ≡ or_earlier later earlier }
+{
+    match later {
+        Some(outcome) => Some(outcome),
+        None => earlier,
+    }
+}
+
+// Adds a statement that was answered Done and isn't read as COMMIT, before others.
+fn add_done(alloc: Global, later: &mut Later, text: &[u8]) -> Result<(), NoMemory>
+    ensures commits { OnOk result (later.new.commits.items ≡ (if reads_begin text.now then later.old.commits.items ++ later.old.first ∷ [] else later.old.commits.items)) }
+    ensures first { OnOk result (later.new.first ≡ (if reads_rollback text.now then 0 else later.old.first)) }
+    ensures outcome { OnOk result (later.new.outcome ≡ later.old.outcome) }
+{
+    if reads_word(alloc, text, Keyword::Begin)? {
+        later.commits.push(later.first)?;
+        return Ok(());
+    }
+    if reads_word(alloc, text, Keyword::Rollback)? {
+        later.first = 0;
     }
     Ok(())
 }
 
-// Of each transaction that began among a client's statements, in order, the event that took its COMMIT, and 0 where it has none.
-fn commits_among(alloc: Global, executed: &[Executed]) -> Result<Vec<u64>, NoMemory>
-    ensures { IfOk result (λ found. found.items ≡ commits_of (all_executed executed.now)) }
+// Adds a statement with its outcome, before others.
+fn add_statement(
+    alloc: Global,
+    later: &mut Later,
+    number: u64,
+    text: &Txt,
+    outcome: Option<Outcome>,
+) -> Result<(), NoMemory>
+    ensures commits { OnOk result (later.new.commits.items ≡ (if begins_with text.now outcome then later.old.commits.items ++ later.old.first ∷ [] else later.old.commits.items)) }
+    ensures first { OnOk result (later.new.first ≡ first_with number text.now outcome later.old.first) }
+    ensures outcome { OnOk result (later.new.outcome ≡ later.old.outcome) }
 {
-    let mut found = Vec::new(alloc);
-    let mut first = 0;
-    let mut i = executed.len();
-    while i > 0 {
-        i -= 1;
-        add_prepare(alloc, &mut found, &executed[i], first)?;
-        first = accepted(alloc, &executed[i], first)?;
+    let text = text.as_str().as_bytes();
+    if reads_commit(text) {
+        later.first = number;
+        return Ok(());
     }
-    found.reverse();
-    Ok(found)
+    match outcome {
+        Some(Outcome::Done) => add_done(alloc, later, text),
+        Some(Outcome::Conflict) => {
+            later.first = 0;
+            Ok(())
+        }
+        _ => Ok(()),
+    }
+}
+
+// Adds an event before others.
+fn add_event(
+    alloc: Global,
+    later: &mut Later,
+    client: u64,
+    number: u64,
+    event: &Event,
+) -> Result<(), NoMemory>
+    ensures { (es : List (ℕ × EventType)) → IsLater client es later.old → OnOk result (IsLater client ((number, event.now) ∷ es) later.new) }
+{
+    match event {
+        Event::Take(taker, text, answer) => {
+            if u64::from(*taker) == client {
+                let outcome = last_of(later.outcome, given(answer));
+                later.outcome = None;
+                add_statement(alloc, later, number, text, outcome)?;
+            }
+            Ok(())
+        }
+        Event::Call(caller, _, _, _, _, Some(answer)) => {
+            if u64::from(*caller) == client {
+                later.outcome = last_of(later.outcome, Some(outcome_of(answer.get())));
+            }
+            Ok(())
+        }
+        _ => Ok(()),
+    }
 }
 
 /// Of each transaction of a client, in order, the event that took its COMMIT, and 0 where it has none.
 pub fn commits_by(alloc: Global, client: u64, events: &[Event]) -> Result<Seq<u64>, NoMemory>
     ensures { IfOk result (λ found. found ≡ commits_of (statements_by_lem client events.now)) }
 {
-    let executed = statements_by(alloc, client, events)?;
-    let found = commits_among(alloc, executed.as_slice())?;
+    let mut later = Later {
+        commits: Vec::new(alloc),
+        first: 0,
+        outcome: None,
+    };
+    let mut i = events.len();
+    while i > 0 {
+        i -= 1;
+        add_event(alloc, &mut later, client, i as u64 + 1, &events[i])?;
+    }
+    let mut found = later.commits;
+    found.reverse();
     Ok(Seq::from_vec(found))
 }
 

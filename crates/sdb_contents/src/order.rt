@@ -1,11 +1,11 @@
 //! The points of transactions, and their order.
-ghost use Rattle.std.specs.Prelude.{◌≡◌, ◌≢◌, ◌<◌, ◌^◌, ◌↔◌, All, Contains, IfOk, OnOk, ℕ, map};
+ghost use Rattle.std.specs.Prelude.{◌≡◌, ◌≢◌, ◌<◌, ◌^◌, ◌↔◌, All, Contains, IfOk, IfSome, OnOk, ℕ, map};
 ghost use Rattle.std.specs.List.Sorted.{IsNonDecreasingBy, IsPermutation, IsStrictlyIncreasing};
 ghost use Rattle.std.specs.Ordering.{nat_cmp};
 ghost use Rattle.std.specs.BTreeMap.{get};
 ghost use Rattle.sdb_types.specs.declared.txid.TxId.{TxId};
 ghost use Rattle.sdb_model.specs.Transactions.{client_of as client_of_lem, last_prepare, ordinal_of as ordinal_of_lem, point, statements_by as statements_by_lem, ArePointsApart, point_at};
-ghost use Rattle.sdb_contents.specs.Commits.{commits_of};
+ghost use Rattle.sdb_contents.specs.Commits.{commit_at as commit_at_lem, commits_of};
 ghost use Rattle.sdb_contents.specs.Order.{rising_from};
 
 use crate::commits::{commit_at, commits_by};
@@ -34,52 +34,55 @@ fn ordinal_of(id: TxId) -> u64
     (id.0 & 0xffff_ffff_ffff_ffff) as u64
 }
 
-// Turns to a client, where what is known is of another.
-fn turn_to(
+// The event that took a transaction's COMMIT, and 0 where there is none. What is known of a client is kept for its next
+// transaction.
+fn accepted_of(
     alloc: Global,
     events: &[Event],
-    known: &mut Commits,
-    client: u64,
-) -> Result<(), NoMemory>
-    requires { known.old.accepted ≡ commits_of (statements_by_lem known.old.client events.now) }
-    ensures known { OnOk result (known.new.accepted ≡ commits_of (statements_by_lem client events.now)) }
-    ensures client { OnOk result (known.new.client ≡ client) }
+    known: &mut Option<Commits>,
+    id: TxId,
+) -> Result<u64, NoMemory>
+    requires { IfSome known.old (λ k. k.accepted ≡ commits_of (statements_by_lem k.client events.now)) }
+    ensures accepted { IfOk result (λ n. n ≡ commit_at_lem (ordinal_of_lem id) (commits_of (statements_by_lem (client_of_lem id) events.now))) }
+    ensures known { OnOk result (IfSome known.new (λ k. k.accepted ≡ commits_of (statements_by_lem k.client events.now))) }
 {
-    if known.client != client {
-        let accepted = commits_by(alloc, client, events)?;
-        *known = Commits { client, accepted };
+    let client = client_of(id);
+    let k = ordinal_of(id);
+    if let Some(commits) = known {
+        if commits.client == client {
+            return Ok(commit_at(commits.accepted.as_slice(), k));
+        }
     }
-    Ok(())
+    let accepted = commits_by(alloc, client, events)?;
+    let event = commit_at(accepted.as_slice(), k);
+    *known = Some(Commits { client, accepted });
+    Ok(event)
 }
 
-// A transaction's point. What is known of a client is kept for its next transaction.
+// A transaction's point.
 fn event_of(
     alloc: Global,
     events: &[Event],
     prepared: &BTreeMap<u128, u64>,
-    known: &mut Commits,
+    known: &mut Option<Commits>,
     id: TxId,
 ) -> Result<u64, NoMemory>
     requires prepared { (id : TxId) → id.0 < 2 ^ 128 → get nat_cmp prepared.now id.0 ≡ last_prepare events.now id }
-    requires known { known.old.accepted ≡ commits_of (statements_by_lem known.old.client events.now) }
+    requires known { IfSome known.old (λ k. k.accepted ≡ commits_of (statements_by_lem k.client events.now)) }
     ensures point { IfOk result (λ n. n ≡ point events.now id) }
-    ensures known { OnOk result (known.new.accepted ≡ commits_of (statements_by_lem known.new.client events.now)) }
+    ensures known { OnOk result (IfSome known.new (λ k. k.accepted ≡ commits_of (statements_by_lem k.client events.now))) }
 {
-    if let Some(number) = prepared.get(&id.0) {
-        return Ok(*number);
+    match prepared.get(&id.0) {
+        Some(number) => Ok(*number),
+        None => accepted_of(alloc, events, known, id),
     }
-    turn_to(alloc, events, known, client_of(id))?;
-    Ok(commit_at(known.accepted.as_slice(), ordinal_of(id)))
 }
 
 fn points_of(alloc: Global, events: &[Event], ids: &[TxId]) -> Result<Vec<Point>, NoMemory>
     ensures { IfOk result (λ points. points.items ≡ map (point_at events.now) ids.now) }
 {
     let prepared = last_prepares(alloc, events)?;
-    let mut known = Commits {
-        client: 0,
-        accepted: commits_by(alloc, 0, events)?,
-    };
+    let mut known = None;
     let mut points = Vec::new(alloc);
     for id in ids {
         let event = event_of(alloc, events, &prepared, &mut known, *id)?;

@@ -1,58 +1,29 @@
 //! The last prepare of each transaction.
 ghost use Rattle.std.specs.Prelude.{◌≡◌, ◌<◌, ◌^◌, ◌||◌, if◌then◌else◌, IfOk, OnOk, Some};
-ghost use Rattle.std.specs.Option.{option_copied};
 ghost use Rattle.std.specs.Ordering.{nat_cmp};
 ghost use Rattle.std.specs.BTreeMap.{get};
 ghost use Rattle.sdb_types.specs.declared.record.Request.TheVariants.{PutAll};
 ghost use Rattle.sdb_types.specs.declared.record.State.TheVariants.{Deleted, Prepared};
 ghost use Rattle.sdb_types.specs.declared.txid.TxId.{TxId};
 ghost use Rattle.sdb_types.specs.Contents.{is_version};
-ghost use Rattle.sdb_record.specs.Ids.{id_of_text};
-ghost use Rattle.sdb_record.specs.Meta.{id_in, id_in_value};
 ghost use Rattle.sdb_model.specs.Transactions.{is_prepared_by, is_prepared_record, last_prepare, prepares};
 ghost use Rattle.sdb_contents.specs.Order.{is_of};
 
+use crate::version::state_in;
 use sdb_model::{Event, How};
-use sdb_record::has_version;
-use sdb_types::{
-    Columns, Known, Name, NoMemory, Put, Record, Reply, Request, State, TxId, Txt, Value,
-};
+use sdb_record::writer_of;
+use sdb_types::{NoMemory, Put, Record, Reply, Request, State, TxId};
 use std::alloc::Global;
 use std::collections::BTreeMap;
 
-fn read_id(text: &Txt) -> Option<TxId>
-    ensures { result ≡ id_of_text text.now }
-{
-    TxId::from_text(text)
-}
-
-fn id_of(value: Option<&Value>) -> Option<TxId>
-    ensures { result ≡ id_in_value (option_copied value.entry) }
-{
-    match value {
-        Some(Value::Text(text)) => read_id(text),
-        _ => None,
-    }
-}
-
-fn writer_of(columns: &Columns) -> Option<TxId>
-    ensures { result ≡ id_in columns.now }
-{
-    id_of(columns.get(&Name::known(Known::TxId)))
-}
-
-fn is_prepare(rec: &Record, id: TxId) -> bool
-    ensures { result ≡ (is_version id Prepared rec.now || is_version id Deleted rec.now) }
-{
-    has_version(rec, id, State::Prepared) || has_version(rec, id, State::Deleted)
-}
-
-// The transaction whose prepare a record is.
+// The transaction whose prepare a record is. Its state is looked at first: to read its id costs more.
 fn preparer(rec: &Record) -> Option<TxId>
     ensures { (id : TxId) → id.0 < 2 ^ 128 → (is_version id Prepared rec.now || is_version id Deleted rec.now) ≡ is_of id result }
 {
-    let id = writer_of(&rec.columns)?;
-    if is_prepare(rec, id) { Some(id) } else { None }
+    match state_in(&rec.columns) {
+        Some(State::Prepared | State::Deleted) => writer_of(&rec.columns),
+        _ => None,
+    }
 }
 
 // Keeps a number of the transaction whose prepare a record is.

@@ -1,13 +1,13 @@
 //! Which version a record is, and which records can't be moved.
 ghost use Rattle.std.specs.Prelude.{◌≡◌, ◌↔◌, IsTrue, IfErr, OnOk, Any};
 ghost use Rattle.std.specs.Option.{option_copied};
-ghost use Rattle.sdb_record.specs.Meta.{state_in_value};
+ghost use Rattle.sdb_record.specs.Meta.{state_in as state_in_lem, state_in_value};
 ghost use Rattle.sdb_contents.specs.Copying.{AreFree, IsFree, version_in as version_in_lem};
 ghost use Rattle.sdb_contents.specs.Stopped.{IsBlockedIn};
 
 use crate::retire_refused::RetireRefused;
 use sdb_record::writer_of;
-use sdb_types::{Condition, Duplicate, Record, State, Value, same, value_named};
+use sdb_types::{Columns, Condition, Duplicate, Known, Name, Record, State, Value, same};
 
 fn state_of(value: Option<&Value>) -> Option<State>
     ensures { result ≡ state_in_value (option_copied value.entry) }
@@ -20,12 +20,19 @@ fn state_of(value: Option<&Value>) -> Option<State>
     }
 }
 
+/// The state of a record with these columns, 1 to 3. Takes no memory.
+pub fn state_in(columns: &Columns) -> Option<State>
+    ensures { result ≡ state_in_lem columns.now }
+{
+    state_of(columns.get(&Name::known(Known::TxState)))
+}
+
 /// The version that a record is: its id, and its state 1 to 3. Takes no memory.
 pub fn version_in(rec: &Record) -> Option<Condition>
     ensures { result ≡ version_in_lem rec.now }
 {
     let id = writer_of(&rec.columns)?;
-    let state = state_of(value_named(rec.columns.pairs(), "tx_state"))?;
+    let state = state_in(&rec.columns)?;
     Some(Condition::Version(id, state))
 }
 
