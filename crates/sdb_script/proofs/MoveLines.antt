@@ -8,9 +8,8 @@ use Rattle.std.specs.Str.{bytes_eq}
 use Rattle.std.proofs.lemmas.Bool.Decides.{nat_tests}
 use Rattle.std.proofs.lemmas.List.Elements.{All-head, All-tail}
 use Rattle.std.proofs.lemmas.List.Sums.{sum_by-cons}
-use Rattle.sdb_types.proofs.Public.{and_both, and_first, and_second, by_test, some_is}
-use Rattle.sdb_record.specs.Names.{after_front}
-use Rattle.sdb_record.proofs.Public.{is_front}
+use Rattle.sdb_types.proofs.Public.{and_both, and_first, and_second, by_test, is_front, some_is}
+use Rattle.sdb_types.specs.NameText.{after_front}
 use Rattle.sdb_schema.specs.Kinds.{kind_text}
 use Rattle.sdb_script.specs.Types.{Act, Kind, Move, TableName}
 use Rattle.sdb_model.specs.declared.script.Act.TheVariants as act

@@ -6,9 +6,8 @@ use Rattle.std.specs.Str.{is_utf8, IsUtf8, bytes_eq}
 use Rattle.std.specs.Str.Pattern.{FindsTextPrefix, StripsPrefix}
 use Rattle.std.proofs.lemmas.Str.{IsUtf8-from_is_utf8}
 use Rattle.std.proofs.lemmas.Slice.Eq.{bytes_eq-Decides}
-use Rattle.sdb_record.specs.Names.{after_front}
-use Rattle.sdb_record.proofs.Public.{after_front-append, no_front}
-use Rattle.sdb_types.proofs.Public.{by_test, some_is}
+use Rattle.sdb_types.specs.NameText.{after_front}
+use Rattle.sdb_types.proofs.Public.{after_front-append, by_test, no_front, some_is}
 
 pub no_utf8 : (text : List ℕ) → (IsUtf8 text → ⊥) → false ≡ is_utf8 text
 no_utf8 text h = by_test (is_utf8 text) (λ t. absurd (h (IsUtf8-from_is_utf8 text t))) (λ t. sym t)

@@ -4,9 +4,8 @@ use Rattle.std.specs.Prelude.{Result, nat_le, nat_lt}
 use Rattle.std.specs.Option.{option_map_or}
 use Rattle.std.specs.Str.{bytes_eq, is_utf8}
 use Rattle.std.proofs.lemmas.Bool.Decides.{nat_tests}
-use Rattle.sdb_types.proofs.Public.{and_both, and_first, and_second, by_test, not_true}
-use Rattle.sdb_record.specs.Names.{after_front}
-use Rattle.sdb_record.proofs.Public.{is_front}
+use Rattle.sdb_types.proofs.Public.{and_both, and_first, and_second, by_test, is_front, not_true}
+use Rattle.sdb_types.specs.NameText.{after_front}
 use Rattle.sdb_script.specs.Types.{SchemaFault, Table}
 use Rattle.sdb_loader.specs.Described.{catalog_in}
 use Rattle.sdb_model.specs.declared.script.Which.TheVariants as which

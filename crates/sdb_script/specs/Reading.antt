@@ -2,7 +2,7 @@
 use Rattle.std.specs.Prelude.{◌≡◌, ℕ, ◌+◌, min, nat_le, nat_lt, pos, true, not, ◌&&◌, if◌then◌else◌, List, [], ◌∷◌, ◌++◌, length, codes, Option, Some, None, Result, Ok, Err}
 use Rattle.std.specs.Option.{option_map, option_map_or, option_and_then}
 use Rattle.std.specs.Str.{bytes_eq, is_utf8}
-use Rattle.sdb_record.specs.Names.{after_front}
+use Rattle.sdb_types.specs.NameText.{after_front}
 use Rattle.sdb_script.specs.Types.{Act, Move, SchemaFault, Script, ScriptClient, Table}
 use Rattle.sdb_loader.specs.Described.{catalog_in}
 use Rattle.sdb_loader.specs.Words.{kind_named}

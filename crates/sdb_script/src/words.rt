@@ -4,7 +4,7 @@ ghost use Rattle.std.specs.Prelude.{◌≡◌, ◌-◌, ◌^◌, min, true, IfOk
 ghost use Rattle.std.specs.List.{list_all};
 ghost use Rattle.std.specs.Option.{option_copied, option_map};
 ghost use Rattle.std.specs.Str.{is_utf8};
-ghost use Rattle.sdb_record.specs.Names.{after_front};
+ghost use Rattle.sdb_types.specs.NameText.{after_front};
 ghost use Rattle.sdb_model.specs.Form.{is_client_name};
 ghost use Rattle.sdb_model.specs.SqlTokens.{is_digit, digits_value as digits_value_lem};
 ghost use Rattle.sdb_script.specs.Words as spec;

@@ -7,11 +7,12 @@ use Rattle.std.specs.declared.cmp.Ordering.TheVariants.{Less, Equal, Greater}
 use Rattle.std.specs.Ordering.{is_lt, is_eq, ordering_reverse}
 use Rattle.std.specs.Cmp.{tied_itself}
 use Rattle.sdb_types.specs.declared.pair.Pair.{Pair}
+use Rattle.sdb_types.specs.declared.value.Value.{Value}
 use Rattle.sdb_types.specs.Order.{name_cmp}
-use Rattle.sdb_types.specs.Columns.{is_null, starts_above, are_columns, put_pair, take_out, with_column, column, is_named, first_value, place_in}
+use Rattle.sdb_types.specs.Columns.{is_null, starts_above, are_columns, put_pair, take_out, with_column, column, is_named, is_first_name, first_value, place_in}
 use Rattle.sdb_types.proofs.Bools.{and_first, and_second}
 use Rattle.sdb_types.proofs.KeyOrder.{name_exact, name_total}
-use Rattle.sdb_types.proofs.ColumnLemmas.{by_order, above_more}
+use Rattle.sdb_types.proofs.ColumnLemmas.{by_order, above_more, named-is_place}
 use Rattle.sdb_types.proofs.Basics.{less_of}
 
 -- what follows a column is above it
@@ -44,6 +45,16 @@ column-at_place name (e ∷ es) c =
     (λ q. simp q (column-at_place name es (tail_columns e es c)))
     (λ q. simp q refl)
     (λ q. let above : starts_above name es ≡ true = above_more name e es (ap is_lt (turned e.name name Greater q)) (tail_above e es c) in simp q (sym (column_above name es (tail_columns e es c) above)))
+
+named-first : (name : List ℕ) (ps : List Pair) (v : Value) → first_value name ps ≡ Some v → is_first_name name ps ≡ true
+named-first name [] v h = absurd (cc)
+named-first name (e ∷ es) v h = elim (is_named name e) as (λ b. cond b (Some e.value) None ≡ Some v → b ≡ true) [ true ↦ λ k. refl | false ↦ λ k. absurd (cc) ] h
+
+-- the value at any place whose column has the name
+pub column-near : (name : List ℕ) (ps : List Pair) (n : ℕ) (v : Value) → are_columns ps ≡ true → first_value name (drop n ps) ≡ Some v → column ps name ≡ Some v
+column-near name ps n v c h =
+    let at : n ≡ place_in name ps = named-is_place name ps n c (named-first name (drop n ps) v h) in
+    sym (column-at_place name ps c) ∙ ap (λ k. first_value name (drop k ps)) (sym at) ∙ h
 
 pub column-put_same : (p : Pair) (ps : List Pair) → column (put_pair p ps) p.name ≡ Some p.value
 column-put_same p [] = simp (itself p.name) refl

@@ -9,5 +9,6 @@ mod Batches
 mod Replies
 mod ColumnMap
 mod Words
+mod Prefixes
 mod SpanRows
 pub mod Public

@@ -11,3 +11,4 @@ pub use Rattle.sdb_types.proofs.Replies.{rows_in-are_rows_of}
 pub use Rattle.sdb_types.proofs.SpanRows.{find_span, same_rows}
 pub use Rattle.sdb_types.proofs.TxIdLemmas.{id_text_parses, is_text_value}
 pub use Rattle.sdb_types.proofs.Words.{no_dot, part_small, start_part}
+pub use Rattle.sdb_types.proofs.Prefixes.{after_front-append, before-is_name, is_front, no_front, rest-is_name, strips}

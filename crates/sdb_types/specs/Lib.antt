@@ -1,5 +1,7 @@
 pub mod Identifier
 pub mod NameText
+pub mod SharedItems
+pub mod TextBytes
 pub mod Order
 pub mod Columns
 pub mod ValueLaws

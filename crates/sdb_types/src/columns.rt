@@ -68,7 +68,7 @@ fn is_at(pairs: &[Pair], place: usize, name: &Name) -> bool
     ensures { result ≡ is_first_name name.now (drop place pairs.now) }
 {
     match pairs.get(place) {
-        Some(pair) => pair.name.cmp(name).is_eq(),
+        Some(pair) => pair.name.is_same(name),
         None => false,
     }
 }
@@ -77,7 +77,7 @@ fn value_at<'a>(pairs: &'a [Pair], place: usize, name: &Name) -> Option<&'a Valu
     ensures { option_copied result ≡ first_value name.now (drop place pairs.now) }
 {
     match pairs.get(place) {
-        Some(pair) if pair.name.cmp(name).is_eq() => Some(&pair.value),
+        Some(pair) if pair.name.is_same(name) => Some(&pair.value),
         _ => None,
     }
 }
@@ -88,6 +88,17 @@ fn value_in<'a>(pairs: &'a [Pair], name: &Name) -> Option<&'a Value>
     ensures { option_copied result ≡ column pairs.now name.now }
 {
     value_at(pairs, place_of(pairs, name), name)
+}
+
+// The value of a column, which is looked for first at a place.
+fn value_near<'a>(pairs: &'a [Pair], place: usize, name: &Name) -> Option<&'a Value>
+    requires { are_columns pairs.now ≡ true }
+    ensures { option_copied result ≡ column pairs.now name.now }
+{
+    match value_at(pairs, place, name) {
+        Some(value) => Some(value),
+        None => value_in(pairs, name),
+    }
 }
 
 // The lengths are compared first, so most names differ at once.
@@ -179,7 +190,7 @@ impl Columns {
         }
     }
 
-    /// No columns, with room for so many, taken at once. No room takes no memory.
+    /// No columns, with room for so many, taken at once, as a `SharedSeq` takes it.
     pub fn with_room(alloc: Global, room: usize) -> Result<Columns, NoMemory>
         ensures { IfOk result (λ columns. columns ≡ []) }
     {
@@ -219,6 +230,20 @@ impl Columns {
         ensures { option_copied result ≡ column self.now name.now }
     {
         value_in(self.pairs.as_slice(), name)
+    }
+
+    /// Where the column of a name is, or would be: how many columns have a smaller name. Takes no memory.
+    pub fn find_place(&self, name: &Name) -> usize
+        ensures { result ≡ place_in name.now self.now }
+    {
+        place_of(self.pairs.as_slice(), name)
+    }
+
+    /// The value of a column, as `get` finds it. The column at a place is looked at first. Takes no memory.
+    pub fn get_near(&self, place: usize, name: &Name) -> Option<&Value>
+        ensures { option_copied result ≡ column self.now name.now }
+    {
+        value_near(self.pairs.as_slice(), place, name)
     }
 
     pub fn set(&mut self, name: Name, value: Value) -> Result<(), NoMemory>

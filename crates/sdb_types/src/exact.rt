@@ -8,7 +8,7 @@ use crate::key::{Key, TableName};
 use crate::name::Name;
 use crate::pair::Pair;
 use crate::record::{Condition, Put, Record, Reply, Request, Span, State};
-use crate::shared::SharedSeq;
+use crate::shared::{AsList, SharedSeq};
 use crate::text::Txt;
 use crate::txid::TxId;
 use crate::value::Value;
@@ -25,7 +25,7 @@ pub fn same<T: Exact>(a: &T, b: &T) -> bool
     a == b
 }
 
-impl<T: Exact> Exact for SharedSeq<T> {
+impl<T: Exact + AsList> Exact for SharedSeq<T> {
     ghost decides = { pointwise_decides T.decides };
 }
 

@@ -10,7 +10,7 @@ ghost use Rattle.sdb_types.specs.HashInput.{value_input};
 
 use crate::name::Name;
 use crate::seq::Seq;
-use crate::shared::SharedSeq;
+use crate::shared::{AsList, SharedSeq};
 use crate::text::Txt;
 use crate::value::Value;
 use std::hash::{Hash, Hasher};
@@ -45,7 +45,7 @@ impl<T: Hash> Hash for Seq<T> {
     }
 }
 
-impl<T: Hash> Hash for SharedSeq<T> {
+impl<T: Hash + AsList> Hash for SharedSeq<T> {
     ghost hash_input = { fed.slice T.hash_input };
 
     ghost respects_eq = { (items_Alike (record { fed = T.respects_eq })).fed };

@@ -1,7 +1,8 @@
 //! Names that the program has of its own: those of the protocol's columns, and of the table of its decisions.
-ghost use Rattle.std.specs.Prelude.{◌≡◌, true};
+ghost use Rattle.std.specs.Prelude.{◌≡◌, ◌++◌, true, IfSome};
+ghost use Rattle.std.specs.Option.{option_map};
 ghost use Rattle.sdb_types.specs.Identifier.{is_name};
-ghost use Rattle.sdb_types.specs.NameText.{known_text};
+ghost use Rattle.sdb_types.specs.NameText.{known_text, before_prefix, name_within};
 
 /// A name that is written in the program, so that no record needs room for it.
 #[derive(Clone, Copy, Debug, PartialEq, Eq)]
@@ -24,9 +25,10 @@ pub enum Known {
 }
 
 impl Known {
-    ghost use Rattle.std.specs.Prelude.{◌≡◌, true};
+    ghost use Rattle.std.specs.Prelude.{◌≡◌, ◌++◌, true, IfSome};
+    ghost use Rattle.std.specs.Option.{option_map};
     ghost use Rattle.sdb_types.specs.Identifier.{is_name};
-    ghost use Rattle.sdb_types.specs.NameText.{known_text};
+    ghost use Rattle.sdb_types.specs.NameText.{known_text, before_prefix, name_within};
 
     /// The text of the name.
     pub fn text(self) -> &'static str
@@ -49,6 +51,36 @@ impl Known {
             Known::TxCreatedAt => "tx_created_at",
             Known::Coordinator => "coordinator",
             Known::State => "state",
+        }
+    }
+
+    /// The name with `before_` before it, if the program has it.
+    pub(crate) fn before(self) -> Option<Known>
+        ensures { IfSome result (λ name. known_text name ≡ before_prefix ++ known_text self) }
+    {
+        match self {
+            Known::TxId => Some(Known::BeforeTxId),
+            Known::TxState => Some(Known::BeforeTxState),
+            Known::TxVersion => Some(Known::BeforeTxVersion),
+            Known::TxPreparedAt => Some(Known::BeforeTxPreparedAt),
+            Known::TxCommittedAt => Some(Known::BeforeTxCommittedAt),
+            Known::TxTombstone => Some(Known::BeforeTxTombstone),
+            _ => None,
+        }
+    }
+
+    /// The name that follows `before_` in this one, if one does.
+    pub(crate) fn within(self) -> Option<Known>
+        ensures { option_map known_text result ≡ name_within (known_text self) }
+    {
+        match self {
+            Known::BeforeTxId => Some(Known::TxId),
+            Known::BeforeTxState => Some(Known::TxState),
+            Known::BeforeTxVersion => Some(Known::TxVersion),
+            Known::BeforeTxPreparedAt => Some(Known::TxPreparedAt),
+            Known::BeforeTxCommittedAt => Some(Known::TxCommittedAt),
+            Known::BeforeTxTombstone => Some(Known::TxTombstone),
+            _ => None,
         }
     }
 }

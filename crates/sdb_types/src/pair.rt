@@ -3,6 +3,7 @@ ghost use Rattle.std.specs.Prelude.{◌≡◌, IfOk};
 
 use crate::memory::{Duplicate, NoMemory};
 use crate::name::Name;
+use crate::shared::AsList;
 use crate::value::Value;
 
 /// A column of a record, or a column that a statement sets.
@@ -25,5 +26,11 @@ impl Duplicate for Pair {
             name: self.name.copy()?,
             value: self.value.copy()?,
         })
+    }
+}
+
+impl AsList for Pair {
+    fn as_list(&self) -> &[Pair] {
+        std::slice::from_ref(self)
     }
 }

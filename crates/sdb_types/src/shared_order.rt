@@ -2,10 +2,10 @@
 ghost use Rattle.std.specs.Cmp.Lexicographic.{slice_cmp, slice_partial_cmp, lists_total, lists_agrees, lists_ties, lists_po, lists_per, lists_equiv};
 ghost use lib.Pointwise.{pointwise};
 
-use crate::shared::SharedSeq;
+use crate::shared::{AsList, SharedSeq};
 use std::cmp::Ordering;
 
-impl<T: PartialEq> PartialEq for SharedSeq<T> {
+impl<T: PartialEq + AsList> PartialEq for SharedSeq<T> {
     ghost eq = { pointwise T.eq };
 
     ghost laws = { lists_per T.laws };
@@ -15,11 +15,11 @@ impl<T: PartialEq> PartialEq for SharedSeq<T> {
     }
 }
 
-impl<T: Eq> Eq for SharedSeq<T> {
+impl<T: Eq + AsList> Eq for SharedSeq<T> {
     ghost laws = { lists_equiv T.Eq.laws };
 }
 
-impl<T: PartialOrd> PartialOrd for SharedSeq<T> {
+impl<T: PartialOrd + AsList> PartialOrd for SharedSeq<T> {
     ghost partial_cmp = { slice_partial_cmp T.partial_cmp };
 
     ghost laws = { lists_po T.PartialOrd.laws };
@@ -29,7 +29,7 @@ impl<T: PartialOrd> PartialOrd for SharedSeq<T> {
     }
 }
 
-impl<T: Ord> Ord for SharedSeq<T> {
+impl<T: Ord + AsList> Ord for SharedSeq<T> {
     ghost cmp = { slice_cmp T.cmp };
 
     ghost total = { lists_total T.total };

@@ -4,7 +4,7 @@ ghost use Rattle.std.specs.Prelude.{◌≡◌, IfOk};
 use crate::memory::{Duplicate, NoMemory};
 use crate::name::Name;
 use crate::seq::Seq;
-use crate::shared::SharedSeq;
+use crate::shared::{AsList, SharedSeq};
 use crate::text::Txt;
 
 /// Bytes.
@@ -51,6 +51,12 @@ impl Duplicate for Value {
             Value::Text(text) => Ok(Value::Text(text.copy()?)),
             Value::Blob(bytes) => Ok(Value::Blob(bytes.copy_items()?)),
         }
+    }
+}
+
+impl AsList for Value {
+    fn as_list(&self) -> &[Value] {
+        std::slice::from_ref(self)
     }
 }
 

@@ -3,6 +3,5 @@ use Rattle.std.proofs.lemmas.Map.Text.{is_eq-slice_cmp}
 use Rattle.sdb_types.specs.Exact.{equal_of}
 use Rattle.sdb_types.proofs.name.NameOrd.cmp.Goals as goal
 
--- src/name.rt:198:13
 pub returns-then-eq : goal.returns-then-eq
 returns-then-eq c = sym (equal_of _ (is_eq-slice_cmp c.args.self.now c.args.other.now ∙ sym c.eq.ensures ∙ c.if-eq.true))
