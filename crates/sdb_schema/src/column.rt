@@ -8,6 +8,9 @@ ghost use Rattle.sdb_schema.specs.Sought.{place_in, first_named};
 use crate::table::Column;
 use sdb_types::Name;
 
+// So many columns are looked at by their names in less time than a place is found by their order.
+const FEW: usize = 4;
+
 // Where the name is, or would be.
 fn place_of(columns: &[Column], name: &Name) -> usize
     requires { rises columns.now ≡ true }
@@ -21,7 +24,7 @@ fn named_at<'a>(columns: &'a [Column], place: usize, name: &Name) -> Option<&'a 
     ensures { option_copied result ≡ first_named name.now (drop place columns.now) }
 {
     match columns.get(place) {
-        Some(column) if column.name.cmp(name).is_eq() => Some(column),
+        Some(column) if column.name.is_same(name) => Some(column),
         _ => None,
     }
 }
@@ -36,7 +39,7 @@ fn find_by_place<'a>(columns: &'a [Column], name: &Name) -> Option<&'a Column>
 fn find_in_all<'a>(columns: &'a [Column], name: &Name) -> Option<&'a Column>
     ensures { option_copied result ≡ find (λ c. same_name c.name name.now) columns.now }
 {
-    columns.iter().find(|column| column.name.cmp(name).is_eq())
+    columns.iter().find(|column| column.name.is_same(name))
 }
 
 /// The first column of a name. Columns that are known to rise aren't all gone through.
@@ -51,8 +54,32 @@ pub fn find_column<'a>(columns: &'a [Column], rising: bool, name: &Name) -> Opti
     }
 }
 
-/// The first column of a name. Of columns that are known to rise the one at a place is looked at first: where names are looked for in their
-/// order, each is found there. The place is then the one behind the column that was found.
+// The place of a name among so many columns from a place on, or else one where it isn't.
+fn place_ahead(columns: &[Column], few: usize, place: usize, name: &Name) -> usize {
+    match columns.get(place) {
+        Some(column) if few > 0 && !column.name.is_same(name) => {
+            place_ahead(columns, few - 1, place.saturating_add(1), name)
+        }
+        _ => place,
+    }
+}
+
+fn find_ahead<'a>(columns: &'a [Column], place: &mut usize, name: &Name) -> Option<&'a Column>
+    requires { rises columns.now ≡ true }
+    ensures { option_copied result ≡ find (λ c. same_name c.name name.now) columns.now }
+{
+    let ahead = place_ahead(columns, FEW, *place, name);
+    if let Some(column) = named_at(columns, ahead, name) {
+        *place = ahead.saturating_add(1);
+        return Some(column);
+    }
+    let there = place_of(columns, name);
+    *place = there.saturating_add(1);
+    named_at(columns, there, name)
+}
+
+/// The first column of a name. Of columns that are known to rise the few from a place on are looked at first: where names are looked for in
+/// their order, each is found there. The place is then the one behind the column that was found.
 pub fn find_column_near<'a>(
     columns: &'a [Column],
     rising: bool,
@@ -62,24 +89,18 @@ pub fn find_column_near<'a>(
     requires { rising ≡ true → rises columns.now ≡ true }
     ensures { option_copied result ≡ find (λ c. same_name c.name name.now) columns.now }
 {
-    if !rising {
-        return find_in_all(columns, name);
+    if rising {
+        find_ahead(columns, place, name)
+    } else {
+        find_in_all(columns, name)
     }
-    let here = *place;
-    if let Some(column) = named_at(columns, here, name) {
-        *place = here.saturating_add(1);
-        return Some(column);
-    }
-    let there = place_of(columns, name);
-    *place = there.saturating_add(1);
-    named_at(columns, there, name)
 }
 
 fn starts_above(columns: &[Column], name: &Name) -> bool
     ensures { result ≡ is_above_column name.now columns.now }
 {
     match columns.first() {
-        Some(column) => name.cmp(&column.name).is_lt(),
+        Some(column) => name.as_str().cmp(column.name.as_str()).is_lt(),
         None => true,
     }
 }

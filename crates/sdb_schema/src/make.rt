@@ -47,7 +47,7 @@ impl From<NoMemory> for TableRefused {
 pub fn lists(columns: &[Column], name: &Name) -> bool
     ensures { result ≡ has_column columns.now name.now }
 {
-    columns.iter().any(|column| column.name.cmp(name).is_eq())
+    columns.iter().any(|column| column.name.is_same(name))
 }
 
 // The first name that is no column's.
@@ -69,7 +69,7 @@ fn find_reserved(columns: &[Column]) -> Option<&Name>
 fn is_below(first: &Column, second: &Column) -> bool
     ensures { result ≡ is_lt (name_cmp first.now.name second.now.name) }
 {
-    first.name.cmp(&second.name).is_lt()
+    first.name.as_str().cmp(second.name.as_str()).is_lt()
 }
 
 fn is_below_next(column: &Column, others: &[Column]) -> bool
@@ -85,7 +85,7 @@ fn is_next(column: &Column, others: &[Column]) -> bool
     ensures { result ≡ next_repeats column.now.name others.now }
 {
     match others.first() {
-        Some(next) => column.name.cmp(&next.name).is_eq(),
+        Some(next) => column.name.is_same(&next.name),
         None => false,
     }
 }
@@ -120,7 +120,7 @@ fn find_listed_twice(columns: &[Column]) -> Option<&Name>
 pub fn is_listed(names: &[Name], name: &Name) -> bool
     ensures { result ≡ is_among names.now name.now }
 {
-    names.iter().any(|other| name.cmp(other).is_eq())
+    names.iter().any(|other| name.is_same(other))
 }
 
 // The first name that comes before too.

@@ -83,7 +83,7 @@ fn suits(columns: &[Column], rising: bool, place: &mut usize, name: &Name, value
 fn orders_by(orders: &[Order], name: &Name) -> bool
     ensures { result ≡ list_any (λ o. same_name name.now o.name) orders.now }
 {
-    orders.iter().any(|order| name.cmp(&order.name).is_eq())
+    orders.iter().any(|order| name.is_same(&order.name))
 }
 
 impl Table {
@@ -154,17 +154,23 @@ fn is_stored(table: &Table, rising: bool, place: &mut usize, pair: &Pair) -> boo
         )
 }
 
-// Whether the columns of a row are found by their places: where there are many, and the table's columns rise.
-fn uses_places(table: &Table, pairs: &[Pair]) -> bool
+// Whether the columns of a row are found by their places: where the table's columns are known to rise, or where there are many and those
+// are found to.
+fn uses_places(table: &Table, rising: bool, pairs: &[Pair]) -> bool
+    requires { rising ≡ true → rises table.now.columns ≡ true }
     ensures { result ≡ true → rises table.now.columns ≡ true }
 {
+    if rising {
+        return true;
+    }
     pairs.len() > FEW && all_rise(table.columns.as_slice())
 }
 
-fn all_stored(table: &Table, pairs: &[Pair]) -> bool
+fn all_stored(table: &Table, rising: bool, pairs: &[Pair]) -> bool
+    requires { rising ≡ true → rises table.now.columns ≡ true }
     ensures { result ≡ list_all (is_stored_in table.now) pairs.now }
 {
-    let rising = uses_places(table, pairs);
+    let rising = uses_places(table, rising, pairs);
     let mut place = 0;
     for pair in pairs {
         if !is_stored(table, rising, &mut place, pair) {
@@ -200,7 +206,8 @@ fn are_ordered_values(columns: &[Column], orders: &[Order], values: &[Value]) ->
 }
 
 impl Table {
-    ghost use Rattle.std.specs.Prelude.{◌≡◌, None, OnOk, IfErr};
+    ghost use Rattle.std.specs.Prelude.{◌≡◌, true, None, OnOk, IfErr};
+    ghost use Rattle.sdb_schema.specs.Table.{rises};
     ghost use Rattle.sdb_schema.specs.Rows.{row_refusal, RefusesRow, fits_table};
 
     /// Whether a row, by its columns' names, is one of the table: each column of the key has a value, and each value is of
@@ -226,6 +233,15 @@ impl Table {
     pub fn fits(&self, row_key: &Key, columns: &Columns) -> bool
         ensures { result ≡ fits_table self.now row_key.now columns.now }
     {
+        self.fits_where(false, row_key, columns)
+    }
+
+    /// Whether a stored row fits the table, as `fits` says. That the table's columns are in the order of their names is looked at once for many
+    /// rows, and `rising` says that it's known. Takes no memory.
+    pub fn fits_where(&self, rising: bool, row_key: &Key, columns: &Columns) -> bool
+        requires { rising ≡ true → rises self.now.columns ≡ true }
+        ensures { result ≡ fits_table self.now row_key.now columns.now }
+    {
         let listed = self.columns.as_slice();
         are_values(
             listed,
@@ -235,6 +251,6 @@ impl Table {
             listed,
             self.clustering.as_slice(),
             row_key.clustering.as_slice(),
-        ) && all_stored(self, columns.pairs())
+        ) && all_stored(self, rising, columns.pairs())
     }
 }
