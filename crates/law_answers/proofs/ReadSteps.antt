@@ -1,23 +1,22 @@
 -- Each call of a read keeps what the calls say of where it is.
-use Rattle.std.proofs.Common.{◌≡◌, ◌<◌, ℕ, ℤ, Bool, true, false, not, cond, List, [], ◌∷◌, ◌++◌, Some, None, Result, Ok, Err, inr, refl, sym, ap, subst, ◌∙◌, arith}
-use Rattle.std.specs.Prelude.{if◌then◌else◌, ◌&&◌, MatchBool, is_ok, codes, find, Contains}
-use Rattle.std.specs.List.{AllByRecursion, list_all, list_any}
+use Rattle.std.proofs.Common.{◌≡◌, ◌<◌, ℕ, ℤ, Bool, true, false, not, List, [], ◌∷◌, ◌++◌, Some, None, Result, Ok, Err, inr, refl, sym, ap, subst, ◌∙◌, arith}
+use Rattle.std.specs.Prelude.{if◌then◌else◌, ◌&&◌, MatchBool, is_ok, codes, Contains}
+use Rattle.std.specs.List.{AllByRecursion, list_all}
 use Rattle.std.specs.Ordering.{is_eq}
 use Rattle.std.proofs.lemmas.Bool.{and_parts}
 use Rattle.std.proofs.lemmas.List.Elements.{All-contains_itself, Contains-append_left, Contains-push, recursion_from_All}
-use Rattle.law_answers.specs.Types.{Access, Event, Key, Meta, Pair, Record, RecoverPhase, RecoverStep, Reply, Request, Span, TableName, TxId}
+use Rattle.law_answers.specs.Types.{Access, Event, Key, Meta, Record, RecoverPhase, RecoverStep, Reply, Request, Span, TableName, TxId}
 use Rattle.sdb_types.specs.declared.record.Reply.TheVariants as reply
 use Rattle.sdb_types.specs.declared.record.State.TheVariants as state
 use Rattle.sdb_types.specs.Contents.{CanAnswer, are_rows_of, in_span, rise}
 use Rattle.sdb_types.specs.Exact.{equal_of}
 use Rattle.sdb_types.specs.Order.{table_cmp}
-use Rattle.sdb_types.proofs.Public.{by_test, clash, some_is, table_exact}
+use Rattle.sdb_types.proofs.Public.{by_test, clash, not_true, some_is, table_exact}
 use Rattle.sdb_record.specs.declared.access.Access.TheVariants as access
 use Rattle.sdb_record.specs.declared.coordinator.Decision.TheVariants as decision
 use Rattle.sdb_record.specs.Coordinator.{coordinator_key_of, decision_in, is_coordinator_table, is_expired}
-use Rattle.sdb_record.specs.Meta.{checked, checked_before, checked_part, is_committed, is_in, is_misnamed, is_transactional, is_unresolved, moment_in, refuse, with_before}
-use Rattle.sdb_record.specs.Parts.{before_part, is_before_pair}
-use Rattle.sdb_record.proofs.Public.{accepted, refuse-ok, row-key}
+use Rattle.sdb_record.specs.Meta.{checked, is_in, is_transactional, is_unresolved, moment_in}
+use Rattle.sdb_record.proofs.Public.{accepted, row-key}
 use Rattle.sdb_model.specs.Calls.{StoreCall, calls_of, clock_at, is_read, records_read, records_observed}
 use Rattle.sdb_model.specs.Causes.{HasReply, IsBusy}
 use Rattle.sdb_model.specs.Events.{table_asked}
@@ -101,14 +100,9 @@ read_asked : (a : Access) → is_read (request_of a) ≡ true
 read_asked (access.Get key) = refl
 read_asked (access.Scan span) = refl
 
--- what is no table of records is not
-not_is : (b : Bool) → not b ≡ true → b ≡ false
-not_is true h = clash (sym h)
-not_is false h = refl
-
 data_asked : (a : Access) → IsDataTable (access_table a) → is_coordinator_table (table_asked (request_of a)) ≡ false
-data_asked (access.Get key) k = not_is (is_coordinator_table key.table) k
-data_asked (access.Scan span) k = not_is (is_coordinator_table span.table) k
+data_asked (access.Get key) k = not_true (is_coordinator_table key.table) k
+data_asked (access.Scan span) k = not_true (is_coordinator_table span.table) k
 
 -- a read of a table reads rows
 pub rows_read : (m : StoreCall) → is_read m.request ≡ true → is_coordinator_table (table_asked m.request) ≡ false → reads_rows m ≡ true

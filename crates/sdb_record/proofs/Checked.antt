@@ -11,7 +11,7 @@ use Rattle.sdb_types.specs.Order.{value_cmp}
 use Rattle.sdb_types.specs.Exact.{equal_of}
 use Rattle.sdb_types.specs.ValueLaws.{value_exact}
 use Rattle.sdb_types.specs.Contents.{tx_id, tx_state, has_value}
-use Rattle.sdb_types.proofs.Public.{and_both, and_first, and_second, or_neither as or-false}
+use Rattle.sdb_types.proofs.Public.{and_both, and_first, and_second, not_true, or_neither as or-false}
 use Rattle.std.proofs.lemmas.Bool.Decides.{nat_tests}
 use Rattle.sdb_record.specs.declared.meta.Meta.{Meta}
 use Rattle.sdb_record.proofs.NameLemmas.{same_name-true}
@@ -184,12 +184,12 @@ keeps_here (Some n) name h k =
     let i : is_identifier n ≡ true = twice (is_identifier n) h in
     subst (λ (x : List ℕ). is_identifier x ≡ true) e i
 
--- the column at a place keeps an identifier
-pub keeps-at : (ps : List Pair) (i : ℕ) (p : Pair) (name : List ℕ) → i < length ps → p ≡ get_or ps i p → have_identifiers (drop i ps) ≡ true → base_name p.name ≡ Some name → is_identifier name ≡ true
-keeps-at ps i p name h e k n =
+-- the column at a place keeps an identifier, if it keeps a name
+pub keeps-at : (ps : List Pair) (i : ℕ) (p : Pair) → i < length ps → p ≡ get_or ps i p → have_identifiers (drop i ps) ≡ true → is_misnamed p ≡ false
+keeps-at ps i p h e k =
     let d : drop i ps ≡ p ∷ drop (suc i) ps = drop-cons ps i p h ∙ ap (λ x. x ∷ drop (suc i) ps) (sym e) in
     let all : have_identifiers (p ∷ drop (suc i) ps) ≡ true = subst (λ (xs : List Pair). have_identifiers xs ≡ true) d k in
-    keeps_here (base_name p.name) name (and_first (not (is_misnamed p)) (have_identifiers (drop (suc i) ps)) all) n
+    not_true (is_misnamed p) (and_first (not (is_misnamed p)) (have_identifiers (drop (suc i) ps)) all)
 
 ---- names that leave room for the prefix
 

@@ -4,6 +4,8 @@ use Rattle.std.specs.Prelude.{filter}
 use Rattle.std.specs.List.{list_all}
 use Rattle.std.specs.declared.cmp.Ordering.TheVariants.{Less, Greater}
 use Rattle.std.specs.Ordering.{is_lt}
+use Rattle.std.specs.Cmp.{tied_itself}
+use Rattle.sdb_types.specs.declared.value.Value.{Value}
 use Rattle.sdb_types.specs.declared.pair.Pair.{Pair}
 use Rattle.sdb_types.specs.Order.{name_cmp}
 use Rattle.sdb_types.specs.Columns.{is_null, starts_above, are_columns, put_pair, with_column}
@@ -42,6 +44,15 @@ put-apart p q es apart =
     (λ h. absurd (apart (name_exact p.name q.name h)))
     (λ h. sym (put-less q p es (swapped p.name q.name Greater h)))
 
+-- a column that is put over itself
+pub put-again : (name : List ℕ) (v w : Value) (es : List Pair) → put_pair (record { name = name; value = v }) (put_pair (record { name = name; value = w }) es) ≡ put_pair (record { name = name; value = v }) es
+put-again name v w [] = simp (tied_itself name_total name) refl
+put-again name v w (e ∷ es) =
+    by_order (name_cmp e.name name)
+    (λ k. simp k (ap (λ xs. e ∷ xs) (put-again name v w es)))
+    (λ k. simp (k, tied_itself name_total name) refl)
+    (λ k. simp (k, tied_itself name_total name) refl)
+
 pub with_column-put : (p : Pair) (es : List Pair) → is_null p.value ≡ false → with_column p es ≡ put_pair p es
 with_column-put p es h = simp h refl
 
@@ -76,10 +87,6 @@ pub with_columns-apart : (keep : List ℕ → Bool) (xs ys es : List Pair) → l
 with_columns-apart keep [] ys es h k = refl
 with_columns-apart keep (x ∷ xs) ys es h k =
     ap (with_columns xs) (past_all keep x ys es (and_first (stays keep x) (list_all (stays keep) xs) h) k) ∙ with_columns-apart keep xs ys (with_column x es) (and_second (stays keep x) (list_all (stays keep) xs) h) k
-
-pub with_columns-append : (xs ys es : List Pair) → with_columns (xs ++ ys) es ≡ with_columns ys (with_columns xs es)
-with_columns-append [] ys es = refl
-with_columns-append (x ∷ xs) ys es = with_columns-append xs ys (with_column x es)
 
 ---- columns in order, set one after another
 
@@ -219,12 +226,12 @@ list_all-tail t (x ∷ xs) ys h = list_all-tail t xs ys (and_second (t x) (list_
 
 -- the columns below, then those of the base, then the columns above
 pub in_three : (below above base : List Pair) → are_columns (below ++ above) ≡ true → are_user_columns (below ++ above) ≡ true → are_columns base ≡ true
-    → with_columns above (with_columns (map before_pair base) (with_columns below [])) ≡ with_columns (map before_pair base) (below ++ above)
+    → with_columns above (with_columns (map before_pair base) below) ≡ with_columns (map before_pair base) (below ++ above)
 in_three below above base c u b =
-    with_columns-apart not_before above (map before_pair base) (with_columns below []) (list_all-tail (stays not_before) below above (stays-user (below ++ above) c u)) (leaves-kept base b)
-    ∙ ap (with_columns (map before_pair base)) (sym (with_columns-append below above []) ∙ with_columns-none (below ++ above) c)
+    with_columns-apart not_before above (map before_pair base) below (list_all-tail (stays not_before) below above (stays-user (below ++ above) c u)) (leaves-kept base b)
+    ∙ ap (with_columns (map before_pair base)) (with_columns-rising below above c)
 
 pub laid_in_three : (row below above base a b d : List Pair) → row ≡ below ++ above → are_columns row ≡ true → are_user_columns row ≡ true → are_columns base ≡ true
-    → a ≡ with_columns below [] → b ≡ with_columns (map before_pair base) a → d ≡ with_columns above b → d ≡ with_columns (map before_pair base) row
+    → a ≡ below → b ≡ with_columns (map before_pair base) a → d ≡ with_columns above b → d ≡ with_columns (map before_pair base) row
 laid_in_three row below above base a b d e c u k p q r =
     r ∙ ap (with_columns above) (q ∙ ap (with_columns (map before_pair base)) p) ∙ in_three below above base (subst (λ (x : List Pair). are_columns x ≡ true) e c) (subst (λ (x : List Pair). are_user_columns x ≡ true) e u) k ∙ ap (with_columns (map before_pair base)) (sym e)

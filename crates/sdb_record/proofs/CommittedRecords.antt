@@ -1,23 +1,21 @@
 -- The committed record of a write, as it is put together.
-use Rattle.std.proofs.Common.{◌≡◌, ℤ, pos, List, [], ◌∷◌, ◌++◌, Bool, true, not, refl, sym, ap, ◌∙◌, map, Option, Some, None}
+use Rattle.std.proofs.Common.{◌≡◌, ℤ, pos, List, [], ◌∷◌, true, not, refl, sym, ap, ◌∙◌, map, Some}
 use Rattle.std.specs.List.{list_all}
-use Rattle.sdb_record.specs.Types.{Key, Pair, Record, State, TxId, Value}
+use Rattle.sdb_record.specs.Types.{Key, Pair, TxId}
 use Rattle.sdb_types.specs.declared.value.Value.TheVariants as value
 use Rattle.sdb_types.specs.declared.record.State.TheVariants.{Deleted}
-use Rattle.sdb_types.specs.Columns.{column}
-use Rattle.sdb_types.specs.Contents.{tx_state, state_number, has_value}
+use Rattle.sdb_types.specs.Contents.{state_number, has_value}
 use Rattle.sdb_types.proofs.Public.{and_both, and_first, and_second}
 use Rattle.sdb_record.specs.declared.write.Change.{Change}
 use Rattle.sdb_record.specs.declared.write.Change.TheVariants as change
 use Rattle.sdb_record.specs.declared.write.Write.{Write}
-use Rattle.sdb_record.specs.Names.{tx_version, is_meta, base_name}
+use Rattle.sdb_record.specs.Names.{is_meta, base_name}
 use Rattle.sdb_record.specs.Parts.{with_columns, before_pair, own_columns, is_user_pair}
 use Rattle.sdb_record.specs.Meta.{is_in}
-use Rattle.sdb_record.specs.Rolls.{prepared_record, forward_record, with_committed, deletes, base_columns, new_columns, new_meta, next_version, next_version_of, state_of_change, writer_columns, age_columns, IsWrite}
-use Rattle.sdb_record.proofs.ColumnLaws.{stays, leaves, not_before, leaves-kept, stays-user, with_columns-apart, with_columns-none}
-use Rattle.sdb_record.proofs.Settings.{all-with_columns, filter-all, filter-with_columns, has_both}
-use Rattle.sdb_record.proofs.PreparedLaws.{change-columns, change-user}
-use Rattle.sdb_record.proofs.WriteLaws.{Fitting, all-user, fitting}
+use Rattle.sdb_record.specs.Rolls.{prepared_record, forward_record, with_committed, deletes, base_columns, new_columns, new_meta, state_of_change, IsWrite}
+use Rattle.sdb_record.proofs.ColumnLaws.{stays, not_before, leaves-kept, with_columns-apart}
+use Rattle.sdb_record.proofs.Settings.{all-with_columns, filter-all, filter-with_columns}
+use Rattle.sdb_record.proofs.WriteLaws.{all-user, fitting}
 use Rattle.sdb_record.proofs.ImageLaws.{left-state}
 
 marks-stay : (w : Write) (id : TxId) (now : ℤ) → list_all (stays not_before) (new_meta w id now) ≡ true
@@ -54,16 +52,11 @@ prepared-at : (w : Write) (id : TxId) (now : ℤ) → (prepared_record w id now)
 unfolding prepared_record
 prepared-at w id now = refl
 
-pub as_committed : (w : Write) (id : TxId) (now created_at : ℤ) (key : Key) (base row a b d e : List Pair) (found : Option Value) (version : ℤ) (state : State) (gone : Bool)
-    → IsWrite w → key ≡ w.key → base ≡ base_columns w.base → row ≡ new_columns w.change → found ≡ column base tx_version → version ≡ next_version_of found → state ≡ state_of_change w.change → gone ≡ deletes w.change
-    → a ≡ with_columns row [] → b ≡ with_columns (writer_columns id state) a → d ≡ with_columns (age_columns version now) b → e ≡ with_committed gone created_at d
-    → record { key = key; columns = e } ≡ forward_record (prepared_record w id now) created_at
+pub as_committed : (w : Write) (id : TxId) (now created_at : ℤ) (key : Key) (row a b : List Pair) → IsWrite w → key ≡ w.key → row ≡ new_columns w.change
+    → a ≡ row → b ≡ with_committed (deletes w.change) created_at (with_columns (new_meta w id now) a) → record { key = key; columns = b } ≡ forward_record (prepared_record w id now) created_at
 unfolding forward_record
-as_committed w id now created_at key base row a b d e found version state gone write k i f g h s t p q r u =
-    let v : version ≡ next_version w.base = h ∙ ap next_version_of (g ∙ ap (λ ps. column ps tx_version) i) in
-    let x : a ≡ new_columns w.change = p ∙ ap (λ ps. with_columns ps []) f ∙ with_columns-none (new_columns w.change) (change-columns w.change write.change) in
-    let y : b ≡ with_columns (writer_columns id (state_of_change w.change)) (new_columns w.change) = q ∙ ap (λ o. with_columns (writer_columns id o) a) s ∙ ap (with_columns (writer_columns id (state_of_change w.change))) x in
-    let z : d ≡ with_columns (new_meta w id now) (new_columns w.change) = r ∙ ap (λ n. with_columns (age_columns n now) b) v ∙ ap (with_columns (age_columns (next_version w.base) now)) y in
-    let all : e ≡ with_committed (is_in Deleted (prepared_record w id now).columns) created_at (own_columns (prepared_record w id now).columns) =
-    u ∙ ap (λ o. with_committed o created_at d) (t ∙ sym (prepared-deleted w id now)) ∙ ap (with_committed (is_in Deleted (prepared_record w id now).columns) created_at) (z ∙ sym (own-prepared w id now write)) in
+as_committed w id now created_at key row a b write k e p q =
+    let x : with_columns (new_meta w id now) a ≡ own_columns (prepared_record w id now).columns = ap (with_columns (new_meta w id now)) (p ∙ e) ∙ sym (own-prepared w id now write) in
+    let all : b ≡ with_committed (is_in Deleted (prepared_record w id now).columns) created_at (own_columns (prepared_record w id now).columns) =
+    q ∙ ap (λ o. with_committed o created_at (with_columns (new_meta w id now) a)) (sym (prepared-deleted w id now)) ∙ ap (with_committed (is_in Deleted (prepared_record w id now).columns) created_at) x in
     λ j. record { key = (k ∙ sym (prepared-at w id now)) j; columns = all j }

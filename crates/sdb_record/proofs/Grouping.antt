@@ -1,5 +1,5 @@
 -- Writes in groups: they are the same writes, and grouping them again changes nothing.
-use Rattle.std.proofs.Common.{◌≡◌, ◌⊎◌, inl, inr, ℕ, ◌+◌, ◌<◌, ◌≤◌, Bool, true, false, cond, List, [], ◌∷◌, ◌++◌, map, length, refl, sym, ap, subst, ◌∙◌, arith, zero, suc, drop, get_or, slice_set, append_assoc, append-nil, length-append}
+use Rattle.std.proofs.Common.{◌≡◌, inl, inr, ℕ, ◌+◌, ◌<◌, ◌≤◌, Bool, true, false, cond, List, [], ◌∷◌, ◌++◌, map, length, refl, sym, ap, subst, ◌∙◌, arith, zero, suc, drop, get_or, slice_set, append_assoc, append-nil, length-append}
 use Rattle.std.proofs.lemmas.List.{map-append}
 use Rattle.std.proofs.lemmas.Option.{slice_get-get_or}
 use Rattle.std.specs.Prelude.{◌-◌, ◌&&◌, ◌||◌, OnOk, Result, Ok, Err, Some, not, nat_lt, slice_get, take}
@@ -16,7 +16,7 @@ use Rattle.sdb_record.specs.Types.{Key}
 use Rattle.sdb_types.specs.Exact.{equal_of}
 use Rattle.sdb_types.specs.Order.{table_cmp, value_cmp, same_partition}
 use Rattle.sdb_types.specs.ValueLaws.{value_exact, value_total}
-use Rattle.sdb_types.proofs.Public.{and_both, and_first, and_second, by_test, clash, none_some, some_is, table_exact, table_total, take_all}
+use Rattle.sdb_types.proofs.Public.{and_both, and_first, and_second, and_true, by_test, clash, either, none_some, not_true, some_is, table_exact, table_total, take_all}
 use Rattle.sdb_record.specs.declared.write.Write.{Write}
 use Rattle.sdb_record.specs.Groups.{is_beside, has_group, has_room_for, placed, placed_all, grouped, ungrouped, in_groups, IsGroup, IsLatest}
 
@@ -155,26 +155,14 @@ group_placed k w (g ∷ gs) = by_test (has_room_for w g && not (has_group w.key 
     joined [] h = clash (sym h)
     joined (x ∷ xs) h = absorbs (same_partition x.key k) (has_group k gs) ∙ ap (λ (b : Bool). (same_partition x.key k || has_group k gs) || b) (same_from x.key w.key k h)
 
-either_so : (a b : Bool) → (a || b) ≡ true → (a ≡ true) ⊎ (b ≡ true)
-either_so true b h = inl refl
-either_so false b h = inr h
-
 not_so : (a b : Bool) → (a && not b) ≡ false → a ≡ true → b ≡ true
 not_so a true h e = refl
-not_so a false h e = clash (sym e ∙ sym (whole a) ∙ h)
-  where
-    whole : (a : Bool) → (a && true) ≡ a
-    whole true = refl
-    whole false = refl
-
-open_so : (b : Bool) → not b ≡ true → b ≡ false
-open_so true h = clash (sym h)
-open_so false h = refl
+not_so a false h e = clash (sym e ∙ sym (and_true a) ∙ h)
 
 full_first : (g : List Write) (w : Write) (gs : List (List Write)) → length g ≤ 64 → (has_room_for w g && not (has_group w.key gs)) ≡ false → (shares g gs ≡ true → length g ≡ 64) → shares g (placed w gs) ≡ true → length g ≡ 64
 unfolding shares
 full_first [] w gs few t full h = clash (sym h)
-full_first (x ∷ xs) w gs few t full h = elim (either_so (has_group x.key gs) (same_partition w.key x.key) (sym (group_placed x.key w gs) ∙ h)) [
+full_first (x ∷ xs) w gs few t full h = elim (either (has_group x.key gs) (same_partition w.key x.key) (sym (group_placed x.key w gs) ∙ h)) [
   | inl old ↦ full old
   | inr same ↦
       let beside : same_partition x.key w.key ≡ true = same_turned w.key x.key same in
@@ -188,7 +176,7 @@ unfolding shares
 placed_shut w [] all full = (λ h. clash (sym h), tt)
 placed_shut w (g ∷ gs) all full = by_test (has_room_for w g && not (has_group w.key gs))
     (λ t. subst (λ (b : Bool). AreFull (cond b ((g ++ w ∷ []) ∷ gs) (g ∷ placed w gs))) (sym t)
-    (λ h. clash (sym h ∙ shares_joined g w gs (and_first (is_beside w.key g) _ (and_first (has_room_for w g) _ t)) ∙ open_so (has_group w.key gs) (and_second (has_room_for w g) _ t)), full.1))
+    (λ h. clash (sym h ∙ shares_joined g w gs (and_first (is_beside w.key g) _ (and_first (has_room_for w g) _ t)) ∙ not_true (has_group w.key gs) (and_second (has_room_for w g) _ t)), full.1))
     (λ t. subst (λ (b : Bool). AreFull (cond b ((g ++ w ∷ []) ∷ gs) (g ∷ placed w gs))) (sym t)
     (full_first g w gs all.0.few t full.0, placed_shut w gs all.1 full.1))
 

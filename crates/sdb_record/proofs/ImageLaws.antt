@@ -131,7 +131,7 @@ image-is r i d h m k =
 
 ---- versions
 
-id-value : (o : Option Value) (id : TxId) → id_in_value o ≡ Some id → has_value o (value.Text (id_text id.0)) ≡ true
+pub id-value : (o : Option Value) (id : TxId) → id_in_value o ≡ Some id → has_value o (value.Text (id_text id.0)) ≡ true
 id-value None id h = absurd (cc)
 id-value (Some (value.Text text)) id h = has_text (Some (value.Text text)) (id_text id.0) (ap (λ t. Some (value.Text t)) (id_of_text-is text id h).1)
 id-value (Some v) id h = absurd (cc)

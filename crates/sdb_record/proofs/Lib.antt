@@ -8,6 +8,7 @@ mod Settings
 mod States
 mod RollLaws
 mod WriteLaws
+mod MetaOrder
 mod PreparedRecords
 mod ImageLaws
 mod CommittedRecords

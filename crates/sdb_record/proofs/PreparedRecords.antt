@@ -21,7 +21,8 @@ use Rattle.sdb_record.specs.Names.{tx_version, tx_prepared_at, tx_committed_at, 
 use Rattle.sdb_record.specs.Parts.{with_columns, before_pair, is_before_pair, is_user_pair, is_column_name, are_stored, are_short, are_user_columns, before_part, before_record, record_with}
 use Rattle.sdb_record.specs.Meta.{checked, checked_part, checked_before, meta_in, is_transactional, is_moment, id_in_value, state_in_value, version_in_value, moment_in_value, absent, tombstone_in_value, is_committed, is_deleted, is_stray, is_early, committed_at_in, tombstone_in, present, is_misnamed, is_badly_named, any_state, with_before, refuse}
 use Rattle.sdb_record.specs.Rolls.{prepared_record, base_columns, new_columns, state_of_change, next_version, next_version_of, IsBaseOf, IsWrite, is_change}
-use Rattle.sdb_record.proofs.NameLemmas.{before-is_name, base_name-before_name}
+use Rattle.sdb_types.proofs.Public.{before-is_name}
+use Rattle.sdb_record.proofs.NameLemmas.{base_name-before_name}
 use Rattle.sdb_record.proofs.PreparedLaws.{base-short}
 use Rattle.sdb_record.proofs.IdLemmas.{id_of_text-id_text}
 use Rattle.sdb_record.proofs.ColumnLaws.{not_before, columns-full, columns-rest}

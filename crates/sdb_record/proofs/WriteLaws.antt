@@ -84,16 +84,16 @@ no-column row base name f u b =
 
 ---- the metadata
 
-abbrev id_pair : TxId → Pair
+abbrev pub id_pair : TxId → Pair
 id_pair id = record { name = tx_id; value = value.Text (id_text id.0) }
 
-abbrev state_pair : State → Pair
+abbrev pub state_pair : State → Pair
 state_pair s = record { name = tx_state; value = value.Int (state_number s) }
 
-abbrev version_pair : ℤ → Pair
+abbrev pub version_pair : ℤ → Pair
 version_pair n = record { name = tx_version; value = value.Int n }
 
-abbrev time_pair : ℤ → Pair
+abbrev pub time_pair : ℤ → Pair
 time_pair n = record { name = tx_prepared_at; value = value.BigInt n }
 
 module _ (id : TxId) (s : State) (version now : ℤ) (xs : List Pair) where

@@ -1,8 +1,9 @@
 -- The names of a record's columns: the six metadata columns, those of the before image, and the user's own.
-use Rattle.std.specs.Prelude.{ℕ, Bool, not, ◌&&◌, ◌||◌, ◌==◌, if◌then◌else◌, List, [], ◌∷◌, ◌++◌, Option, Some, None, is_some, codes}
+use Rattle.std.specs.Prelude.{ℕ, Bool, not, ◌&&◌, ◌||◌, List, ◌++◌, Option, is_some, codes}
 use Rattle.std.specs.Ordering.{is_eq}
 use Rattle.sdb_types.specs.Order.{name_cmp}
 use Rattle.sdb_types.specs.Contents.{tx_id, tx_state}
+use Rattle.sdb_types.specs.NameText.{before_prefix, after_front}
 
 abbrev pub tx_version : List ℕ
 tx_version = codes "tx_version"
@@ -20,19 +21,9 @@ tx_tombstone = codes "tx_tombstone"
 abbrev pub tx_created_at : List ℕ
 tx_created_at = codes "tx_created_at"
 
--- what begins the name of each column of a before image
-abbrev pub before_prefix : List ℕ
-before_prefix = codes "before_"
-
 -- the name under which a column of the base is kept
 abbrev pub before_name : List ℕ → List ℕ
 before_name name = before_prefix ++ name
-
--- what follows this prefix in a text that begins with it
-abbrev pub after_front : List ℕ → List ℕ → Option (List ℕ)
-after_front [] text = Some text
-after_front (c ∷ cs) [] = None
-after_front (c ∷ cs) (t ∷ ts) = if t == c then after_front cs ts else None
 
 -- the name of the base's column that is kept under this name, or none where it is no column of a before image
 unfoldable pub base_name : List ℕ → Option (List ℕ)

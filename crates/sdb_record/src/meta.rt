@@ -13,7 +13,7 @@ ghost use Rattle.sdb_types.specs.declared.record.State.TheVariants.{Committed};
 ghost use Rattle.sdb_record.specs.Inside.{allows, meta_within, checked_within, first_of_part, is_stray_name, is_early_name, passes_name, name_within};
 
 use crate::part::{
-    MetaColumn, Part, before_image_name, is_before_name, is_user_name, value_within,
+    MetaColumn, Part, before_image_name, is_before_name, is_user_name, values_within,
 };
 use sdb_types::{
     Columns, Name, NameRefused, NoMemory, Record, State, TxId, Txt, Value, is_identifier_text,
@@ -232,25 +232,24 @@ fn read_meta(columns: &Columns, part: Part) -> Result<Meta, &'static str>
     ensures checked { MatchResult result (λ m. meta_within part columns.now ≡ Ok m) (λ e. meta_within part columns.now ≡ Err e.now) }
     ensures named { IfErr result (λ e. is_name e.now ≡ true) }
 {
-    let Some(id) = id_of(value_within(columns, part, MetaColumn::Id)) else {
+    let values = values_within(columns, part);
+    let Some(id) = id_of(values.id) else {
         return Err(MetaColumn::Id.text(part));
     };
-    let state_column = state_of(value_within(columns, part, MetaColumn::State));
-    let Some(state) = allowed_state(part, state_column) else {
+    let Some(state) = allowed_state(part, state_of(values.state)) else {
         return Err(MetaColumn::State.text(part));
     };
-    let Some(version) = version_of(value_within(columns, part, MetaColumn::Version)) else {
+    let Some(version) = version_of(values.version) else {
         return Err(MetaColumn::Version.text(part));
     };
-    let Some(prepared_at) = moment_of(value_within(columns, part, MetaColumn::PreparedAt)) else {
+    let Some(prepared_at) = moment_of(values.prepared_at) else {
         return Err(MetaColumn::PreparedAt.text(part));
     };
-    let committed_column = value_within(columns, part, MetaColumn::CommittedAt);
-    let Some(committed_at) = committed_at_of(state, committed_column) else {
+    let Some(committed_at) = committed_at_of(state, values.committed_at) else {
         return Err(MetaColumn::CommittedAt.text(part));
     };
-    let tombstone_column = value_within(columns, part, MetaColumn::Tombstone);
-    let Some(tombstone) = tombstone_of(is_committed_state(state), tombstone_column) else {
+    let committed = is_committed_state(state);
+    let Some(tombstone) = tombstone_of(committed, values.tombstone) else {
         return Err(MetaColumn::Tombstone.text(part));
     };
     Ok(Meta {

@@ -1,5 +1,5 @@
 //! Names of columns, and the parts of a record that they are in.
-ghost use Rattle.std.specs.Prelude.{◌≡◌, true, IfSome};
+ghost use Rattle.std.specs.Prelude.{◌≡◌, true};
 ghost use Rattle.std.specs.Option.{option_copied};
 ghost use Rattle.sdb_types.specs.Columns.{column};
 ghost use Rattle.sdb_types.specs.Identifier.{is_name};
@@ -25,15 +25,6 @@ pub enum MetaColumn {
     CommittedAt,
     Tombstone,
 }
-
-const META_COLUMNS: [MetaColumn; 6] = [
-    MetaColumn::Id,
-    MetaColumn::State,
-    MetaColumn::Version,
-    MetaColumn::PreparedAt,
-    MetaColumn::CommittedAt,
-    MetaColumn::Tombstone,
-];
 
 impl MetaColumn {
     ghost use Rattle.std.specs.Prelude.{◌≡◌, true};
@@ -125,21 +116,55 @@ impl Part {
     }
 }
 
-/// The metadata column of this name.
-pub fn meta_column(name: &str) -> Option<MetaColumn>
-    ensures { IfSome result (λ column. name.now ≡ meta_name column) }
-{
-    for column in META_COLUMNS {
-        if is_text(name, column.text(Part::Own)) {
-            return Some(column);
-        }
-    }
-    None
+/// What the metadata columns of a part have as values.
+#[derive(Clone, Copy)]
+pub struct MetaValues<'a> {
+    pub id: Option<&'a Value>,
+    pub state: Option<&'a Value>,
+    pub version: Option<&'a Value>,
+    pub prepared_at: Option<&'a Value>,
+    pub committed_at: Option<&'a Value>,
+    pub tombstone: Option<&'a Value>,
 }
 
-/// The value of a metadata column of a part.
-pub fn value_within(columns: &Columns, part: Part, wanted: MetaColumn) -> Option<&Value>
+// The value of a metadata column of a part, which is looked for first at a place. The place is then the one behind it.
+fn value_near<'a>(
+    columns: &'a Columns,
+    part: Part,
+    place: &mut usize,
+    wanted: MetaColumn,
+) -> Option<&'a Value>
     ensures { option_copied result ≡ column (columns_of part columns.now) (meta_name wanted) }
 {
-    columns.get(&Name::known(wanted.word(part)))
+    let found = columns.get_near(*place, &Name::known(wanted.word(part)));
+    if found.is_some() {
+        *place = place.saturating_add(1);
+    }
+    found
+}
+
+/// The values of the metadata columns of a part, each none where the record lacks it. They are looked for in the order of their names.
+pub fn values_within<'a>(columns: &'a Columns, part: Part) -> MetaValues<'a>
+    ensures id { option_copied result.id ≡ column (columns_of part columns.now) (meta_name MetaColumn.Id) }
+    ensures state { option_copied result.state ≡ column (columns_of part columns.now) (meta_name MetaColumn.State) }
+    ensures version { option_copied result.version ≡ column (columns_of part columns.now) (meta_name MetaColumn.Version) }
+    ensures prepared_at { option_copied result.prepared_at ≡ column (columns_of part columns.now) (meta_name MetaColumn.PreparedAt) }
+    ensures committed_at { option_copied result.committed_at ≡ column (columns_of part columns.now) (meta_name MetaColumn.CommittedAt) }
+    ensures tombstone { option_copied result.tombstone ≡ column (columns_of part columns.now) (meta_name MetaColumn.Tombstone) }
+{
+    let mut place = columns.find_place(&Name::known(MetaColumn::CommittedAt.word(part)));
+    let committed_at = value_near(columns, part, &mut place, MetaColumn::CommittedAt);
+    let id = value_near(columns, part, &mut place, MetaColumn::Id);
+    let prepared_at = value_near(columns, part, &mut place, MetaColumn::PreparedAt);
+    let state = value_near(columns, part, &mut place, MetaColumn::State);
+    let tombstone = value_near(columns, part, &mut place, MetaColumn::Tombstone);
+    let version = value_near(columns, part, &mut place, MetaColumn::Version);
+    MetaValues {
+        id,
+        state,
+        version,
+        prepared_at,
+        committed_at,
+        tombstone,
+    }
 }

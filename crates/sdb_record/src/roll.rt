@@ -1,18 +1,18 @@
 //! What a write leaves unresolved, and what that is rolled to.
-ghost use Rattle.std.specs.Prelude.{◌≡◌, ◌≤◌, ◌++◌, [], ◌∷◌, map, length, true, IfOk, OnOk, string_bytes};
+ghost use Rattle.std.specs.Prelude.{◌≡◌, ◌≤◌, ◌++◌, [], ◌∷◌, map, length, true, false, IfOk, OnOk};
 ghost use Rattle.std.specs.Option.{option_copied};
 ghost use Rattle.sdb_types.specs.Columns.{are_columns};
-ghost use Rattle.sdb_record.specs.Names.{before_name};
-ghost use Rattle.sdb_record.specs.Meta.{have_identifiers, is_in, is_unresolved, is_transactional};
+ghost use Rattle.sdb_record.specs.Names.{base_name};
+ghost use Rattle.sdb_record.specs.Meta.{have_identifiers, is_badly_named, is_in, is_unresolved, is_transactional};
 ghost use Rattle.sdb_record.specs.Parts.{with_columns, before_pair, own_columns, before_part, before_record, are_user_columns, are_short};
-ghost use Rattle.sdb_record.specs.Rolls.{prepared_record, forward_record, forward_columns, back_of, image_of, next_version, next_version_of, new_columns, new_meta, writer_columns, age_columns, base_columns, is_tombstone as is_tombstone_lem, state_of_change, with_committed, deletes as deletes_lem, IsWrite};
-ghost use Rattle.sdb_types.specs.Identifier.{is_name};
+ghost use Rattle.sdb_record.specs.Rolls.{prepared_record, forward_record, forward_columns, back_of, image_of, next_version, next_version_of, new_columns, new_meta, base_columns, is_tombstone as is_tombstone_lem, state_of_change, tombstone_mark, with_committed, deletes as deletes_lem, IsWrite};
 
 use crate::coordinator::{Decided, Decision};
-use crate::part::{Part, before_image_name, is_before_name, meta_column};
+use crate::part::is_before_name;
 use crate::write::{Change, Write};
 use sdb_types::{
-    Columns, Duplicate, Key, Known, Name, NoMemory, Pair, Record, State, TxId, Value, value_named,
+    Columns, Duplicate, Key, Known, Name, NoMemory, Pair, Record, SharedSeq, State, TxId, Value,
+    value_named,
 };
 use std::alloc::Global;
 
@@ -31,6 +31,18 @@ impl Drop for Back {
             Back::Remove(_) => {}
         }
     }
+}
+
+// A copy of columns, with room for so many.
+fn copied(alloc: Global, pairs: &[Pair], room: usize) -> Result<Columns, NoMemory>
+    requires { are_columns pairs.now ≡ true }
+    ensures { IfOk result (λ columns. columns ≡ pairs.now) }
+{
+    let mut copies = SharedSeq::with_room(alloc, room)?;
+    for pair in pairs {
+        copies.push(pair.copy()?)?;
+    }
+    Ok(Columns::from_pairs(copies))
 }
 
 // Sets a copy of each column, in order.
@@ -55,15 +67,13 @@ fn lay_own(columns: &mut Columns, pairs: &[Pair]) -> Result<(), NoMemory>
     Ok(())
 }
 
-// The name of a column of the base, of which this is the text.
-fn unkept(alloc: Global, text: &str) -> Result<Name, NoMemory>
-    requires { is_name text.now ≡ true }
-    ensures { IfOk result (λ name. name ≡ text.now) }
+// The name of the column of the base that a column keeps, if it keeps one.
+#[tactic(auto, using(crate::proofs::NameLemmas::within_base))]
+fn unkept(alloc: Global, name: &Name) -> Result<Option<Name>, NoMemory>
+    requires { is_badly_named (base_name name.now) ≡ false }
+    ensures { IfOk result (λ base. base ≡ base_name name.now) }
 {
-    match meta_column(text) {
-        Some(column) => Ok(Name::known(column.word(Part::Own))),
-        None => Name::from_string(String::from_str(alloc, text)?),
-    }
+    name.within(alloc)
 }
 
 // Sets each column of the base that is kept.
@@ -72,8 +82,8 @@ fn lay_base(alloc: Global, columns: &mut Columns, pairs: &[Pair]) -> Result<(), 
     ensures { OnOk result (columns.new ≡ with_columns (before_part pairs.now) columns.old) }
 {
     for pair in pairs {
-        if let Some(name) = before_image_name(pair.name.as_str()) {
-            columns.set(unkept(alloc, name)?, pair.value.copy()?)?;
+        if let Some(name) = unkept(alloc, &pair.name)? {
+            columns.set(name, pair.value.copy()?)?;
         }
     }
     Ok(())
@@ -120,35 +130,13 @@ pub fn is_tombstone(rec: &Record) -> bool
     }
 }
 
-// The text under which a column of the base is kept.
-fn kept_text(alloc: Global, name: &str) -> Result<String, NoMemory>
-    requires { length name.now ≤ 64 }
-    ensures { IfOk result (λ text. string_bytes text ≡ before_name name.now) }
-{
-    let mut text = String::with_capacity(alloc, name.len() + 7)?;
-    text.push_str("before_")?;
-    text.push_str(name)?;
-    Ok(text)
-}
-
-// The name under which a column of the base is kept.
-fn kept_as(alloc: Global, name: &Name) -> Result<Name, NoMemory>
-    requires { length name.now ≤ 64 }
-    ensures { IfOk result (λ kept. kept ≡ before_name name.now) }
-{
-    match meta_column(name.as_str()) {
-        Some(column) => Ok(Name::known(column.word(Part::Before))),
-        None => Name::from_string(kept_text(alloc, name.as_str())?),
-    }
-}
-
 // Sets each column of the base, as it is kept.
 fn lay_kept(alloc: Global, columns: &mut Columns, base: &[Pair]) -> Result<(), NoMemory>
     requires { are_short base.now ≡ true }
     ensures { OnOk result (columns.new ≡ with_columns (map before_pair base.now) columns.old) }
 {
     for pair in base {
-        columns.set(kept_as(alloc, &pair.name)?, pair.value.copy()?)?;
+        columns.set(pair.name.before(alloc)?, pair.value.copy()?)?;
     }
     Ok(())
 }
@@ -173,8 +161,7 @@ fn row_with_base(alloc: Global, row: &[Pair], base: &[Pair]) -> Result<Columns, 
 {
     let (below, above) = row.split_at(kept_place(row));
     let room = row.len().saturating_add(base.len()).saturating_add(4);
-    let mut columns = Columns::with_room(alloc, room)?;
-    lay(&mut columns, below)?;
+    let mut columns = copied(alloc, below, room)?;
     lay_kept(alloc, &mut columns, base)?;
     lay(&mut columns, above)?;
     Ok(columns)
@@ -225,20 +212,29 @@ fn state_left(change: &Change) -> State
     }
 }
 
-// Says who wrote a record, and in which state it is.
-fn set_writer(alloc: Global, columns: &mut Columns, id: TxId, state: State) -> Result<(), NoMemory>
-    ensures { OnOk result (columns.new ≡ with_columns (writer_columns id state) columns.old) }
+fn version_left(base: &Option<Record>) -> i32
+    ensures { result ≡ next_version base.now }
 {
-    let text = id.text(alloc)?;
-    columns.set(Name::known(Known::TxId), Value::Text(text))?;
-    columns.set(Name::known(Known::TxState), Value::Int(state.number()))
+    version_above(value_named(base_pairs(base), "tx_version"))
 }
 
-fn set_age(columns: &mut Columns, version: i32, now: i64) -> Result<(), NoMemory>
-    ensures { OnOk result (columns.new ≡ with_columns (age_columns version now) columns.old) }
+// Sets the metadata of what a write leaves unresolved, in the order of the names: each is set at the end.
+fn set_unresolved(
+    alloc: Global,
+    columns: &mut Columns,
+    write: &Write,
+    id: TxId,
+    now: i64,
+) -> Result<(), NoMemory>
+    ensures { OnOk result (columns.new ≡ with_columns (new_meta write.now id now) columns.old) }
 {
+    let state = state_left(&write.change);
+    let version = version_left(&write.base);
+    columns.set(Name::known(Known::TxId), Value::Text(id.text(alloc)?))?;
+    columns.set(Name::known(Known::TxPreparedAt), Value::BigInt(now))?;
+    columns.set(Name::known(Known::TxState), Value::Int(state.number()))?;
     columns.set(Name::known(Known::TxVersion), Value::Int(version))?;
-    columns.set(Name::known(Known::TxPreparedAt), Value::BigInt(now))
+    Ok(())
 }
 
 /// The record that a transaction puts for a write at a moment from 0 to 2^53: the new row, each column of the base as it
@@ -248,15 +244,23 @@ pub fn prepared(alloc: Global, write: &Write, id: TxId, now: i64) -> Result<Reco
     requires { IsWrite write.now }
     ensures { IfOk result (λ rec. rec ≡ prepared_record write.now id now) }
 {
-    let base = base_pairs(&write.base);
-    let version = version_above(value_named(base, "tx_version"));
-    let mut columns = row_with_base(alloc, row_pairs(&write.change), base)?;
-    set_writer(alloc, &mut columns, id, state_left(&write.change))?;
-    set_age(&mut columns, version, now)?;
+    let row = row_pairs(&write.change);
+    let mut columns = row_with_base(alloc, row, base_pairs(&write.base))?;
+    set_unresolved(alloc, &mut columns, write, id, now)?;
     Ok(Record {
         key: write.key.copy()?,
         columns,
     })
+}
+
+// Marks that the row was deleted, where it was.
+fn mark_deleted(columns: &mut Columns, deleted: bool) -> Result<(), NoMemory>
+    ensures { OnOk result (columns.new ≡ with_columns (tombstone_mark deleted) columns.old) }
+{
+    if deleted {
+        columns.set(Name::known(Known::TxTombstone), Value::Bool(true))?;
+    }
+    Ok(())
 }
 
 // Says that a record was committed at a moment, and that it is a tombstone where its row was deleted.
@@ -265,10 +269,7 @@ fn set_committed(columns: &mut Columns, created_at: i64, deleted: bool) -> Resul
 {
     columns.set(Name::known(Known::TxState), Value::Int(3))?;
     columns.set(Name::known(Known::TxCommittedAt), Value::BigInt(created_at))?;
-    if deleted {
-        columns.set(Name::known(Known::TxTombstone), Value::Bool(true))?;
-    }
-    Ok(())
+    mark_deleted(columns, deleted)
 }
 
 // The columns of an unresolved record that is rolled forward.
@@ -301,6 +302,27 @@ fn deletes(change: &Change) -> bool
     }
 }
 
+// Sets the metadata of what a write leaves once it is committed, in the order of the names: each is set at the end.
+fn set_resolved(
+    alloc: Global,
+    columns: &mut Columns,
+    write: &Write,
+    id: TxId,
+    now: i64,
+    created_at: i64,
+) -> Result<(), NoMemory>
+    ensures { OnOk result (columns.new ≡ with_committed (deletes_lem write.now.change) created_at (with_columns (new_meta write.now id now) columns.old)) }
+{
+    let version = version_left(&write.base);
+    columns.set(Name::known(Known::TxCommittedAt), Value::BigInt(created_at))?;
+    columns.set(Name::known(Known::TxId), Value::Text(id.text(alloc)?))?;
+    columns.set(Name::known(Known::TxPreparedAt), Value::BigInt(now))?;
+    columns.set(Name::known(Known::TxState), Value::Int(3))?;
+    mark_deleted(columns, deletes(&write.change))?;
+    columns.set(Name::known(Known::TxVersion), Value::Int(version))?;
+    Ok(())
+}
+
 /// The committed record that a transaction leaves for a write that it prepared at a moment, and that was committed at another, both from 0 to
 /// 2^53: what `rolled_forward` makes of what `prepared` gives, without the before image in between.
 pub fn committed(
@@ -313,13 +335,9 @@ pub fn committed(
     requires { IsWrite write.now }
     ensures { IfOk result (λ rec. rec ≡ forward_record (prepared_record write.now id now) created_at) }
 {
-    let version = version_above(value_named(base_pairs(&write.base), "tx_version"));
     let row = row_pairs(&write.change);
-    let mut columns = Columns::with_room(alloc, row.len().saturating_add(6))?;
-    lay(&mut columns, row)?;
-    set_writer(alloc, &mut columns, id, state_left(&write.change))?;
-    set_age(&mut columns, version, now)?;
-    set_committed(&mut columns, created_at, deletes(&write.change))?;
+    let mut columns = copied(alloc, row, row.len().saturating_add(5))?;
+    set_resolved(alloc, &mut columns, write, id, now, created_at)?;
     Ok(Record {
         key: write.key.copy()?,
         columns,

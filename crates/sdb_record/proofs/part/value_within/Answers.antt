@@ -1,9 +1,0 @@
-use Rattle.std.proofs.Common.{◌∙◌, sym, ap}
-use Rattle.sdb_types.specs.Columns.{column}
-use Rattle.sdb_record.specs.Inside.{meta_name}
-use Rattle.sdb_record.proofs.Within.{column-columns_of}
-use Rattle.sdb_record.proofs.part.value_within.Goals as goal
-
-pub returns : goal.returns
-returns c =
-    c.get.ensures ∙ ap (column c.args.columns.now) (c.known.ensures ∙ c.word.ensures) ∙ sym (column-columns_of c.args.part c.args.columns.now (meta_name c.args.wanted))
