@@ -99,7 +99,7 @@ pub fn images_of_keys(
 ) -> Result<Images, NoMemory>
     ensures { IfOk result (λ images. images ≡ images_at (row_seen read_set.now write_set.now) keys) }
 {
-    let mut images = Images::new(alloc);
+    let mut images = Images::with_room(alloc, keys.len())?;
     put_images(alloc, &mut images, read_set, write_set, keys)?;
     Ok(images)
 }

@@ -38,7 +38,7 @@ impl Model for ReadSet {
 fn found_of(alloc: Global, records: Records) -> Result<Seq<(Key, Option<Record>)>, NoMemory>
     ensures { IfOk result (λ found. found ≡ map found_in records) }
 {
-    let mut found = Seq::new(alloc);
+    let mut found = Seq::with_room(alloc, records.len())?;
     for rec in records.into_vec() {
         found.push((rec.key.copy()?, Some(rec)))?;
     }

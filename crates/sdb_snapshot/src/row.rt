@@ -1,33 +1,26 @@
 //! The rows that records show.
-ghost use Rattle.std.specs.Prelude.{◌≡◌, IfOk, OnOk};
+ghost use Rattle.std.specs.Prelude.{◌≡◌, IfOk};
 ghost use Rattle.std.specs.Option.{option_copied};
-ghost use Rattle.sdb_record.specs.Parts.{user_columns as user_columns_lem, with_columns};
+ghost use Rattle.sdb_record.specs.Parts.{user_columns as user_columns_lem};
 ghost use Rattle.sdb_record.specs.Rolls.{row_of_image, row_of_change as row_of_change_lem};
 ghost use Rattle.sdb_snapshot.specs.Rows.{row_found};
 
 use sdb_record::{Change, is_tombstone, is_user_name};
-use sdb_types::{Columns, Duplicate, NoMemory, Pair, Record};
+use sdb_types::{Columns, Duplicate, NoMemory, Record, SharedSeq};
 use std::alloc::Global;
 
-// Sets a copy of each user column.
-fn lay_user(columns: &mut Columns, pairs: &[Pair]) -> Result<(), NoMemory>
-    ensures { OnOk result (columns.new ≡ with_columns (user_columns_lem pairs.now) columns.old) }
-{
-    for pair in pairs {
-        if is_user_name(pair.name.as_str()) {
-            columns.set(pair.name.copy()?, pair.value.copy()?)?;
-        }
-    }
-    Ok(())
-}
-
+// The user columns. A committed record has five others at least.
 fn user_columns(alloc: Global, columns: &Columns) -> Result<Columns, NoMemory>
     ensures { IfOk result (λ user. user ≡ user_columns_lem columns.now) }
 {
     let length = columns.len();
-    let mut user = Columns::with_room(alloc, length)?;
-    lay_user(&mut user, columns.pairs())?;
-    Ok(user)
+    let mut user = SharedSeq::with_room(alloc, length.saturating_sub(5))?;
+    for pair in columns.pairs() {
+        if is_user_name(pair.name.as_str()) {
+            user.push(pair.copy()?)?;
+        }
+    }
+    Ok(Columns::from_pairs(user))
 }
 
 /// The row that a committed record shows: its user columns; a tombstone shows none.
