@@ -1,6 +1,6 @@
 -- The rows of a span: the records that lie in it, each of which is what the contents have at its key.
-use Rattle.std.proofs.Common.{◌≡◌, ℕ, ◌<◌, ◌⊎◌, inl, inr, Bool, true, false, cond, List, [], ◌∷◌, length, map, get_or, zero, suc, Option, Some, None, refl, sym, ap, subst, ◌∙◌, arith}
-use Rattle.std.specs.Prelude.{◌||◌, All, Any, T}
+use Rattle.std.proofs.Common.{◌≡◌, ℕ, ◌<◌, inl, inr, true, false, cond, List, [], ◌∷◌, length, map, get_or, zero, suc, Some, None, refl, sym, ap, subst, ◌∙◌, arith}
+use Rattle.std.specs.Prelude.{◌||◌, All, T}
 use Rattle.std.specs.Cmp.{tied_itself}
 use Rattle.std.specs.FinMap.{entries, entries_sorted, find, get, get-entries}
 use Rattle.std.specs.FinMap.Entries.{below_all, is_sorted}
@@ -15,7 +15,7 @@ use Rattle.sdb_types.specs.declared.record.Span.{Span}
 use Rattle.sdb_types.specs.Exact.{equal_of}
 use Rattle.sdb_types.specs.Order.{has_key, key_cmp, same_key}
 use Rattle.sdb_types.specs.Contents.{Contents, in_span, record_of, rows_among, rows_in}
-use Rattle.sdb_types.proofs.Public.{clash, false_by, find_span, first_t, key_exact, key_total, none_some, or_neither, same_key_exact, same_key_self, second_t, some_is}
+use Rattle.sdb_types.proofs.Public.{clash, either, false_by, find_span, first_t, key_exact, key_total, none_some, or_neither, same_key_exact, same_key_self, second_t, some_is}
 use Rattle.sdb_shards.specs.Moves.{keys_of}
 
 ---- entries in order
@@ -109,14 +109,10 @@ key_at [] i k d less out = absurd (omega (arith, less))
 key_at (r ∷ rs) zero k d less out = (or_neither (has_key (keys_of rs) k) (same_key k r.key) out).1
 key_at (r ∷ rs) (suc i) k d less out = key_at rs i k d (omega (arith, less)) (or_neither (has_key (keys_of rs) k) (same_key k r.key) out).0
 
-or_is : (a b : Bool) → (a || b) ≡ true → (a ≡ true) ⊎ (b ≡ true)
-or_is true b h = inl refl
-or_is false b h = inr h
-
 pub place_of_key : (rs : List Record) (k : Key) (d : Record) → has_key (keys_of rs) k ≡ true → (i : ℕ) × (i < length rs) × (same_key k (get_or rs i d).key ≡ true)
 place_of_key [] k d h = absurd (clash (sym h))
 place_of_key (r ∷ rs) k d h =
-    elim (or_is (has_key (keys_of rs) k) (same_key k r.key) h) [
+    elim (either (has_key (keys_of rs) k) (same_key k r.key) h) [
       | inl rest ↦ let p = place_of_key rs k d rest in (suc p.0, omega (arith, p.1), p.2)
       | inr here ↦ (0, omega arith, here)
     ]

@@ -102,6 +102,7 @@ impl Shards {
         ensures inside { IfOk result (λ at. at < length self.old.boxes) }
         ensures boxes { self.new.boxes ≡ self.old.boxes }
         ensures moved { self.new.moved ≡ self.old.moved }
+        ensures every { self.new.every ≡ self.old.every }
         ensures calls { self.new.calls ≡ self.old.calls }
         ensures faults { self.new.faults ≡ self.old.faults }
     {
@@ -130,6 +131,7 @@ impl Shards {
         requires { at < length self.old.boxes }
         ensures shows { ShowsSame self.old self.new }
         ensures unmoved { reply.now ≢ Reply.Applied → self.new.boxes ≡ self.old.boxes }
+        ensures never { self.old.every ≡ 0 → (self.new.boxes ≡ self.old.boxes) × (self.new.moved ≡ self.old.moved) }
     {
         if let Reply::Applied = reply {
             if self.every != 0 && self.boxes.counted(at) >= self.every as u64 {
@@ -188,6 +190,7 @@ impl Store for Shards {
     fn put_if(&mut self, rec: &Record, condition: &Condition) -> Reply
         ensures called { IsStoreCall (PutIf rec.now condition.now) result (state_of self.old) (state_of self.new) }
         ensures fault { result ≡ Reply.Fault → HaveRisen self.old.boxes self.new.boxes }
+        ensures never { self.old.every ≡ 0 → self.new.moved ≡ self.old.moved }
     {
         match self.begin(&rec.key.table, &rec.key.partition) {
             Ok(at) => {
@@ -216,6 +219,7 @@ impl Store for Shards {
         requires { IsBatch batch.now }
         ensures called { IsStoreCall (PutAll batch.now) result (state_of self.old) (state_of self.new) }
         ensures fault { result ≡ Reply.Fault → HaveRisen self.old.boxes self.new.boxes }
+        ensures never { self.old.every ≡ 0 → self.new.moved ≡ self.old.moved }
     {
         let key = first_key(batch);
         match self.begin(&key.table, &key.partition) {

@@ -16,3 +16,6 @@ returns-in-Ok-clause-called c =
 pub returns-in-Ok-clause-fault : goal.returns-in-Ok-clause-fault
 returns-in-Ok-clause-fault c =
     failed_home c.in-Ok.at (PutIf c.args.rec.now c.args.condition.now) c.put_if-reply.result c.answered.result c.args.self.now.boxes c.begin.new.self.boxes c.put_if-reply.new.self c.answered.new.self.boxes c.begin.ensures.boxes c.in-Ok.ensures.inside c.put_if-reply.ensures c.answered.ensures.reply (λ h. c.answered.ensures.boxes ∙ c.spread.ensures.unmoved (not_applied c.put_if-reply.result h))
+
+pub returns-in-Ok-clause-never : goal.returns-in-Ok-clause-never
+returns-in-Ok-clause-never c every = c.answered.ensures.moved ∙ ((c.spread.ensures.never (c.begin.ensures.every ∙ every)).1 ∙ c.begin.ensures.moved)
