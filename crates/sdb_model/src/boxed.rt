@@ -1,14 +1,16 @@
-//! A value that lies on the heap, and which every contract sees as the value itself.
+//! A value that lies on the heap, whose copies share it, and which every contract sees as the value itself.
 ghost use Rattle.std.specs.Prelude.{◌≡◌, IfOk};
 
 use sdb_types::{Duplicate, NoMemory};
 use std::alloc::Global;
 use std::marker::Model;
+use std::rc::Rc;
 
-/// A value, seen as itself. It takes the room of a pointer where it is, so a list of events that rarely have an answer is small.
+/// A value, seen as itself. It takes the room of a pointer where it is, so a list of events that rarely have an answer is small. A copy takes
+/// no memory: it shares the value.
 #[derive(Debug, Drop)]
 pub struct Boxed<T> {
-    inner: Box<T>,
+    inner: Rc<T>,
 }
 
 impl<T> Model for Boxed<T> {
@@ -22,7 +24,7 @@ impl<T: Drop> Boxed<T> {
         ensures { IfOk result (λ b. b ≡ value) }
     {
         Ok(Boxed {
-            inner: Box::new(alloc, value)?,
+            inner: Rc::new(alloc, value)?,
         })
     }
 
@@ -45,9 +47,11 @@ impl<T> Boxed<T> {
     }
 }
 
-impl<T: Duplicate> Duplicate for Boxed<T> {
+impl<T: Drop> Duplicate for Boxed<T> {
     fn copy(&self) -> Result<Boxed<T>, NoMemory> {
-        Boxed::new(*Box::allocator(&self.inner), self.get().copy()?)
+        Ok(Boxed {
+            inner: self.inner.clone()?,
+        })
     }
 }
 

@@ -3,6 +3,7 @@
 
 mod answer;
 mod boxed;
+mod common_boxes;
 mod event;
 mod report;
 mod script;
@@ -12,6 +13,7 @@ mod token;
 
 pub use answer::{Answer, Refusal, Rows};
 pub use boxed::Boxed;
+pub use common_boxes::CommonBoxes;
 pub use event::{Altered, Event, Events, How, Outcome, Point, Points, TableDump, TableRows};
 pub use report::{put_alter, put_event_line, put_report_end, put_report_start, report_text};
 pub use script::{Act, Clients, Move, Moves, Place, Places, Script, ScriptClient, Texts, Which};

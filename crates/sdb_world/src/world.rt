@@ -16,7 +16,7 @@ use crate::delivery::Delivery;
 use crate::flights::Flights;
 use crate::perform::perform;
 use sdb_client::{ClientSlot, Gate, fresh_slots, gate_at, prove_order};
-use sdb_model::{Act, Altered, Event, Events, Script, Texts};
+use sdb_model::{Act, Altered, CommonBoxes, Event, Events, Script, Texts};
 use sdb_schema::{Catalog, Column, Kind};
 use sdb_stores::{Registry, table_of};
 use sdb_types::{Duplicate, Name, NoMemory, Request, TableName, Txt};
@@ -54,6 +54,7 @@ pub struct World {
     client_slots: Vec<ClientSlot>,
     flights: Flights,
     events: Events,
+    common_boxes: CommonBoxes,
     clock: i64,
 }
 
@@ -66,6 +67,7 @@ impl Drop for World {
             client_slots: _,
             flights: _,
             events: _,
+            common_boxes: _,
             clock: _,
         } = self;
     }
@@ -92,14 +94,18 @@ impl World {
         ensures events { IfOk result (λ w. w.events ≡ []) }
         ensures initial { IfOk result (λ w. IsInitial w.script (state_of w)) }
     {
+        let common_boxes = CommonBoxes::new(alloc)?;
         let client_slots = fresh_slots(alloc, script.clients.len())?;
         let catalog = script.catalog.copy()?;
+        let flights = Flights::new(alloc);
+        let events = Events::new(alloc);
         Ok(World {
             script,
             catalog,
             client_slots,
-            flights: Flights::new(alloc),
-            events: Events::new(alloc),
+            flights,
+            events,
+            common_boxes,
             clock: 0,
         })
     }
@@ -130,6 +136,7 @@ impl World {
             client_slots: _,
             flights: _,
             events,
+            common_boxes: _,
             clock: _,
         } = self;
         (script, catalog, events)
@@ -195,7 +202,9 @@ impl World {
             .take(&self.catalog, &text, gate, fresh, self.clock);
         let _begun = client_slot.client.begun();
         client_slot.accepted += 1;
-        let event = Event::take(self.events.allocator(), at as u32 + 1, text, answer)?;
+        let alloc = self.events.allocator();
+        let number = at as u32 + 1;
+        let event = self.common_boxes.take(alloc, number, text, answer)?;
         self.events.push(event)?;
         Ok(())
     }
@@ -237,7 +246,10 @@ impl World {
         let answered = reply.copy()?;
         let answer = self.client_slots[at].client.advance(reply, self.clock);
         let alloc = self.events.allocator();
-        let event = Event::call(alloc, at as u32 + 1, store, request, how, answered, answer)?;
+        let number = at as u32 + 1;
+        let event = self
+            .common_boxes
+            .call(alloc, number, store, request, how, answered, answer)?;
         self.events.push(event)?;
         Ok(())
     }
@@ -303,7 +315,9 @@ impl World {
                 let (how, reply) = perform(stores, &request, Delivery::Step);
                 prove_order(&reply);
                 let alloc = self.events.allocator();
-                let event = Event::land(alloc, number, store, request, how, reply)?;
+                let event = self
+                    .common_boxes
+                    .land(alloc, number, store, request, how, reply)?;
                 self.events.push(event)?;
                 Ok(())
             }
