@@ -1,6 +1,7 @@
 pub mod Types
 pub mod Txn
 pub mod Inside
+pub mod Held
 pub mod Read
 pub mod Rows
 pub mod ReadInside

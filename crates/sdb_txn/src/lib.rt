@@ -2,6 +2,7 @@
 #![tactic(auto)]
 
 mod commit_phases;
+mod held;
 mod progress;
 mod read;
 pub mod read_laws;

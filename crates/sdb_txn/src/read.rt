@@ -1,10 +1,13 @@
 //! A read under way.
-ghost use Rattle.std.specs.Prelude.{◌≡◌, ◌≢◌, [], ◌∷◌, IfOk, IsSome, IsSomeAnd, Some, None};
+ghost use Rattle.std.specs.Prelude.{◌≡◌, ◌≢◌, [], ◌∷◌, IfOk, IsSome, IsSomeAnd, Ok, Some, None, true};
 ghost use Rattle.std.specs.Option.{option_copied};
+ghost use Rattle.sdb_record.specs.Meta.{checked, is_unresolved};
 ghost use Rattle.sdb_phases.specs.Steps.{CanGet};
+ghost use Rattle.sdb_phases.specs.declared.step.RecoverPhase.TheVariants.{Look};
 ghost use Rattle.sdb_txn.specs.Read.{Asking, IsAsking, IsResolving, answered, read_pending, read_result, read_step, request_of, resolved as resolved_lem, settle as settle_lem};
 ghost use Rattle.sdb_txn.specs.Rows.{AreRowsOf, stage_in};
 
+use crate::held::Held;
 use crate::row_kinds::{Settled, settle};
 use sdb_phases::RecoverStep;
 use sdb_record::Access;
@@ -44,7 +47,7 @@ pub struct ReadPhases {
     request: Request,
     images: Records,
     left: VecDeque<Record>,
-    recover: Option<Recover>,
+    recover: Option<Held<Recover>>,
     phase: Phase,
 }
 
@@ -101,13 +104,23 @@ fn rows_in(alloc: Global, reply: Reply) -> Result<Records, ReadStep>
     }
 }
 
+// The recovery of an unresolved record. Most reads have none, so it lies on the heap.
+fn recovery_of(alloc: Global, row: Record) -> Result<Held<Recover>, NoMemory>
+    requires { is_unresolved row ≡ true }
+    ensures rec { IfOk result (λ r. r.rec ≡ row) }
+    ensures meta { IfOk result (λ r. checked row.columns ≡ Ok r.meta) }
+    ensures phase { IfOk result (λ r. r.phase ≡ Look) }
+{
+    Held::new(alloc, Recover::new(alloc, row)?)
+}
+
 // Goes on with the rows that are left.
 #[tactic(auto, using(crate::proofs::Firm::open_unresolved, crate::proofs::Firm::open_kind))]
 fn go_on(
     alloc: Global,
     images: &mut Records,
     left: &mut VecDeque<Record>,
-    recover: &mut Option<Recover>,
+    recover: &mut Option<Held<Recover>>,
 ) -> ReadStep
     ensures step { result ≢ ReadStep.NoMemory → result ≡ read_result (settle_lem images.old left.old.items) }
     ensures after { result ≡ ReadStep.More → stage_in recover.new images.new left.new.items ≡ settle_lem images.old left.old.items }
@@ -115,7 +128,7 @@ fn go_on(
 {
     match settle(alloc, images, left) {
         Ok(Settled::All) => ReadStep::Images(mem::replace(images, Records::new(alloc))),
-        Ok(Settled::Open(row)) => match Recover::new(alloc, row) {
+        Ok(Settled::Open(row)) => match recovery_of(alloc, row) {
             Ok(recovery) => {
                 *recover = Some(recovery);
                 ReadStep::More
@@ -128,11 +141,11 @@ fn go_on(
 }
 
 // The record that is resolved may still be decided by its transaction.
-fn busy(recover: &Option<Recover>, id: TxId, at: i64) -> ReadStep
+fn busy(recover: &Option<Held<Recover>>, id: TxId, at: i64) -> ReadStep
     ensures { result ≢ ReadStep.NoMemory → IsSomeAnd recover.now (λ r. result ≡ ReadStep.Busy r.rec.key id at) }
 {
     match recover {
-        Some(recovery) => match recovery.key().copy() {
+        Some(recovery) => match recovery.get().key().copy() {
             Ok(key) => ReadStep::Busy(key, id, at),
             Err(_) => ReadStep::NoMemory,
         },
@@ -145,7 +158,7 @@ fn resolved(
     alloc: Global,
     images: &mut Records,
     left: &mut VecDeque<Record>,
-    recover: &mut Option<Recover>,
+    recover: &mut Option<Held<Recover>>,
     step: RecoverStep,
 ) -> ReadStep
     requires { IsSome recover.old }
@@ -201,7 +214,7 @@ impl ReadPhases {
     {
         match (self.phase, &self.recover) {
             (Phase::Asking, _) => Some(&self.request),
-            (Phase::Resolving, Some(recover)) => recover.request(),
+            (Phase::Resolving, Some(recover)) => recover.get().request(),
             _ => None,
         }
     }
@@ -254,7 +267,7 @@ impl ReadPhases {
         ensures ended { result ≢ ReadStep.More → read_pending self.new ≡ None }
     {
         let step = match &mut self.recover {
-            Some(recovery) => recovery.take(reply, now),
+            Some(recovery) => recovery.get_mut().take(reply, now),
             None => RecoverStep::NoMemory,
         };
         let step = resolved(

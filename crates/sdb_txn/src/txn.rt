@@ -1,24 +1,27 @@
 //! A transaction.
-ghost use Rattle.std.specs.Prelude.{◌≡◌, ◌≢◌, ◌≤◌, ◌<◌, OnOk, OnErr, IfSome, IsSome, Err, length, slice_get, take, true, false};
+ghost use Rattle.std.specs.Prelude.{◌≡◌, ◌≢◌, ◌≤◌, ◌<◌, All, OnOk, OnErr, IfOk, IfSome, IsSome, Err, length, slice_get, take, true, false};
 ghost use Rattle.std.specs.Option.{option_copied};
 ghost use Rattle.sdb_types.specs.Contents.{IsWellFormed};
 ghost use Rattle.sdb_record.specs.declared.access.Access.TheVariants as access;
+ghost use Rattle.sdb_record.specs.Rolls.{IsWrite};
+ghost use Rattle.sdb_phases.specs.Commit.{preparing};
 ghost use Rattle.sdb_phases.specs.CommitLaws.{IsWork};
 ghost use Rattle.sdb_phases.specs.Steps.{CanGet};
-ghost use Rattle.sdb_txn.specs.Read.{read_result, read_step};
+ghost use Rattle.sdb_txn.specs.Read.{Asking, read_result, read_step, request_of};
 ghost use Rattle.sdb_snapshot.specs.Reads.{is_key_read};
-ghost use Rattle.sdb_snapshot.specs.Written.{AreChanges, most_writes};
+ghost use Rattle.sdb_snapshot.specs.Written.{AreChanges, HaveKeysOnce, most_writes};
 ghost use Rattle.sdb_snapshot.specs.Sets.{IsSetInvariant};
 ghost use Rattle.sdb_snapshot.specs.Seen.{forgotten, is_scanned, mark_of, overlay, with_written};
 ghost use Rattle.sdb_snapshot.specs.declared.write_set.WriteRefused.TheVariants as refused;
 ghost use Rattle.sdb_txn.specs.Txn.{AreCallsCounted, CommitPost, EndPost, IfCommitting, IsCommitting, IsReading, IfReading, ImagesPost, IsBegun, IsLookedUp, IsUnread, KeyPost, ReadPost, SpanPost, begun, committing, idle, pending, pending_in, reading, work_of};
 ghost use Rattle.sdb_txn.specs.Inside.{CanEnd, CanRecord, IsReadOf};
 
+use crate::held::Held;
 use crate::progress::{Progress, answered};
 use crate::{CommitPhases, ReadPhases, ReadStep};
-use sdb_record::{Access, Changes};
+use sdb_record::{Access, Changes, Reads, Scans, Writes};
 use sdb_snapshot::{Mark, NoteRefused, Snapshot, WriteRefused};
-use sdb_types::{Duplicate, Key, Record, Records, Reply, Request, Span, TxId};
+use sdb_types::{Duplicate, Key, NoMemory, Record, Records, Reply, Request, Span, TxId};
 use std::alloc::Global;
 use std::marker::Model;
 use std::mem;
@@ -27,8 +30,8 @@ use std::mem;
 #[derive(Drop)]
 pub enum Doing {
     Idle,
-    Read(Access, ReadPhases),
-    Commit(CommitPhases),
+    Read(Access, Held<ReadPhases>),
+    Commit(Held<CommitPhases>),
     Over,
 }
 
@@ -75,6 +78,33 @@ fn first(images: Records) -> Option<Record>
     }
 }
 
+// A read, before its first call.
+fn read_begun(alloc: Global, access: &Access) -> Result<Held<ReadPhases>, NoMemory>
+    ensures { IfOk result (λ r. r ≡ record { request = request_of access.now; stage = Asking }) }
+{
+    Held::new(alloc, ReadPhases::new(alloc, access)?)
+}
+
+// A COMMIT, before its first call.
+fn commit_begun(
+    alloc: Global,
+    id: TxId,
+    now: i64,
+    writes: Writes,
+    reads: Reads,
+    scans: Scans,
+) -> Result<Held<CommitPhases>, NoMemory>
+    requires valid { All IsWrite writes }
+    requires once { HaveKeysOnce writes }
+    ensures work { IfOk result (λ c. c.work ≡ record { id = id; now = now; writes = writes; reads = reads; scans = scans }) }
+    ensures stage { IfOk result (λ c. c.stage ≡ preparing c.work 0) }
+{
+    Held::new(
+        alloc,
+        CommitPhases::new(alloc, id, now, writes, reads, scans)?,
+    )
+}
+
 // Hands the reply to the read that is under way.
 fn read_on(doing: &mut Doing, reply: Reply, now: i64) -> ReadStep
     requires at { IsReading doing.old }
@@ -85,7 +115,7 @@ fn read_on(doing: &mut Doing, reply: Reply, now: i64) -> ReadStep
     ensures same { IfReading doing.old (λ a x. IsReadOf a doing.new) }
 {
     match doing {
-        Doing::Read(_, read) => read.take(reply, now),
+        Doing::Read(_, read) => read.get_mut().take(reply, now),
         _ => ReadStep::NoMemory,
     }
 }
@@ -130,8 +160,8 @@ impl Txn {
         ensures formed { IfSome result (λ request. IsWellFormed request.now) }
     {
         match &self.doing {
-            Doing::Read(_, read) => read.request(),
-            Doing::Commit(commit) => commit.request(),
+            Doing::Read(_, read) => read.get().request(),
+            Doing::Commit(commit) => commit.get().request(),
             Doing::Idle | Doing::Over => None,
         }
     }
@@ -143,7 +173,7 @@ impl Txn {
         ensures more { result ≡ Progress.More → self.new ≡ reading self.old access }
         ensures memory { result ≢ Progress.More → (result ≡ Progress.NoMemory) × (self.new ≡ self.old) }
     {
-        match ReadPhases::new(self.alloc, &access) {
+        match read_begun(self.alloc, &access) {
             Ok(read) => {
                 self.doing = Doing::Read(access, read);
                 Progress::More
@@ -223,7 +253,7 @@ impl Txn {
     {
         let snapshot = mem::replace(&mut self.snapshot, Snapshot::new(self.alloc));
         let (writes, reads, scans) = snapshot.into_parts();
-        match CommitPhases::new(self.alloc, self.id, now, writes, reads, scans) {
+        match commit_begun(self.alloc, self.id, now, writes, reads, scans) {
             Ok(commit) => {
                 self.doing = Doing::Commit(commit);
                 Progress::More
@@ -294,7 +324,7 @@ impl Txn {
         ensures { IfCommitting self.old.doing (λ c. CommitPost self.old c reply result self.new) }
     {
         let answer = match &mut self.doing {
-            Doing::Commit(commit) => commit.take(reply),
+            Doing::Commit(commit) => commit.get_mut().take(reply),
             _ => None,
         };
         if answer.is_some() {
