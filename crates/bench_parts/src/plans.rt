@@ -167,7 +167,7 @@ fn planned(
     statement: &Statement,
     rows: &Images,
 ) -> Option<usize> {
-    let mut plan = Plan::new(alloc, catalog, statement).ok()?;
+    let mut plan = Plan::new(alloc, catalog, statement.copy().ok()?).ok()?;
     steps(alloc, &mut plan, rows)
 }
 

@@ -9,7 +9,7 @@ use sdb_exec::{Plan, PlanRefused};
 use sdb_model::{Answer, Event, Refusal, Statement};
 use sdb_schema::Catalog;
 use sdb_sqltext::laws::one_reading;
-use sdb_types::{NoMemory, Txt};
+use sdb_types::{Duplicate, NoMemory, Txt};
 use std::alloc::Global;
 
 // The refusal of a statement that has to be inside a transaction, and is.
@@ -22,7 +22,7 @@ fn refusal_of(
 {
     match statement {
         Statement::Commit | Statement::Rollback => Ok(None),
-        _ => match Plan::new(alloc, catalog, statement) {
+        _ => match Plan::new(alloc, catalog, statement.copy()?) {
             Ok(_) => Ok(None),
             Err(PlanRefused::Refused(refusal)) => Ok(Some(refusal)),
             Err(PlanRefused::NoMemory) => Err(NoMemory),

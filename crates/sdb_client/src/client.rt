@@ -146,7 +146,7 @@ impl Client {
         ensures answered { result ≢ Some answer.NoMemory → TextPost (record { catalog = catalog.now; now = now; gate = gate; fresh = fresh }) text.now self.old result self.new }
     {
         match parse_statement(self.alloc, text.as_str()) {
-            Ok(statement) => self.take_statement(catalog, &statement, gate, fresh, now),
+            Ok(statement) => self.take_statement(catalog, statement, gate, fresh, now),
             Err(refused) => Some(self.unread(text, refused)),
         }
     }
@@ -173,17 +173,17 @@ impl Client {
     fn take_statement(
         &mut self,
         catalog: &Catalog,
-        statement: &Statement,
+        statement: Statement,
         gate: Gate,
         fresh: TxId,
         now: i64,
     ) -> Option<Answer>
         requires idle { IsIdle self.old }
-        requires literals { has_all_literals statement.now ≡ true }
-        ensures memory { result ≡ Some answer.NoMemory → self.new ≡ left_by statement.now self.old }
-        ensures answered { result ≢ Some answer.NoMemory → StatementPost (record { catalog = catalog.now; now = now; gate = gate; fresh = fresh }) statement.now self.old result self.new }
+        requires literals { has_all_literals statement ≡ true }
+        ensures memory { result ≡ Some answer.NoMemory → self.new ≡ left_by statement self.old }
+        ensures answered { result ≢ Some answer.NoMemory → StatementPost (record { catalog = catalog.now; now = now; gate = gate; fresh = fresh }) statement self.old result self.new }
     {
-        match statement {
+        match &statement {
             Statement::Begin => Some(self.begin(gate, fresh)),
             Statement::Commit => self.commit(now),
             Statement::Rollback => Some(self.rollback()),
@@ -278,11 +278,11 @@ impl Client {
     }
 
     // Takes a statement on a table.
-    fn ask(&mut self, catalog: &Catalog, statement: &Statement) -> Option<Answer>
+    fn ask(&mut self, catalog: &Catalog, statement: Statement) -> Option<Answer>
         requires idle { IsIdle self.old }
-        requires literals { has_all_literals statement.now ≡ true }
+        requires literals { has_all_literals statement ≡ true }
         ensures memory { result ≡ Some answer.NoMemory → self.new ≡ self.old }
-        ensures answered { result ≢ Some answer.NoMemory → AskPost catalog.now statement.now self.old self.old.txn result self.new }
+        ensures answered { result ≢ Some answer.NoMemory → AskPost catalog.now statement self.old self.old.txn result self.new }
     {
         match &mut self.txn {
             Some(txn) => ask(self.alloc, txn, &mut self.plan, catalog, statement),

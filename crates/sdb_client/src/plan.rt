@@ -22,15 +22,11 @@ use sdb_types::Duplicate;
 use std::alloc::Global;
 
 // The plan of a statement and the rows that it wants, or why there is none.
-fn planned(
-    alloc: Global,
-    catalog: &Catalog,
-    statement: &Statement,
-) -> Result<(Plan, Access), Answer>
+fn planned(alloc: Global, catalog: &Catalog, statement: Statement) -> Result<(Plan, Access), Answer>
     ensures catalog { is_catalog catalog.now ≡ true }
-    ensures plan { IfOk result (λ x. IsPlanOf catalog.now statement.now x.0) }
+    ensures plan { IfOk result (λ x. IsPlanOf catalog.now statement x.0) }
     ensures access { IfOk result (λ x. x.1 ≡ access_of x.0.table x.0.statement) }
-    ensures refused { IfErr result (λ z. z ≢ answer.NoMemory → IsSomeAnd (refusal_of catalog.now statement.now) (λ r. z ≡ answer.Refused r)) }
+    ensures refused { IfErr result (λ z. z ≢ answer.NoMemory → IsSomeAnd (refusal_of catalog.now statement) (λ r. z ≡ answer.Refused r)) }
 {
     let _tables = catalog.len();
     match Plan::new(alloc, catalog, statement) {
@@ -93,15 +89,15 @@ pub fn ask(
     txn: &mut Txn,
     running: &mut Option<Plan>,
     catalog: &Catalog,
-    statement: &Statement,
+    statement: Statement,
 ) -> Option<Answer>
     requires idle { txn.old.doing ≡ doing.Idle }
-    requires literals { has_all_literals statement.now ≡ true }
+    requires literals { has_all_literals statement ≡ true }
     requires alone { running.old ≡ None }
     ensures under { IsUnder txn.new.doing running.new }
     ensures memory { result ≡ Some answer.NoMemory → (txn.new ≡ txn.old) × (running.new ≡ None) }
-    ensures refused { result ≢ Some answer.NoMemory → (r : RefusalValue) → refusal_of catalog.now statement.now ≡ Some r → (result ≡ Some (answer.Refused r)) × (txn.new ≡ txn.old) × (running.new ≡ None) }
-    ensures reads { result ≢ Some answer.NoMemory → StatementReads catalog.now statement.now txn.old result txn.new running.new }
+    ensures refused { result ≢ Some answer.NoMemory → (r : RefusalValue) → refusal_of catalog.now statement ≡ Some r → (result ≡ Some (answer.Refused r)) × (txn.new ≡ txn.old) × (running.new ≡ None) }
+    ensures reads { result ≢ Some answer.NoMemory → StatementReads catalog.now statement txn.old result txn.new running.new }
 {
     match planned(alloc, catalog, statement) {
         Ok((plan, access)) => begin_read(txn, running, plan, access),

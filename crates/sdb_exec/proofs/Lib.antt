@@ -13,4 +13,6 @@ mod InOrder
 mod Fits
 mod Misfits
 mod Firsts
+mod Beside
+mod Sieved
 pub mod Public

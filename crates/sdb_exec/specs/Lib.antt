@@ -3,3 +3,4 @@ pub mod Plans
 pub mod Misfits
 pub mod Asked
 pub mod Risen
+pub mod Beside

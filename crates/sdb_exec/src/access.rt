@@ -25,7 +25,7 @@ fn fixed_value(table: &Table, tests: &[Test], name: &Name) -> Result<Option<Valu
 {
     for test in tests {
         if let Test::Compare(column, comparison, literal) = test {
-            if is_equality(*comparison) && column.cmp(name).is_eq() {
+            if is_equality(*comparison) && column.is_same(name) {
                 return Ok(Some(literal_at(table, column, literal)?));
             }
         }

@@ -38,15 +38,7 @@ pub fn kind_of_known(table: &Table, name: &Name) -> Kind
     requires { rises table.now.columns ≡ true }
     ensures { result ≡ kind_of_column table.now name.now }
 {
-    kind_where(table, true, name)
-}
-
-/// The kind of a column of a table whose columns may be in order: those of any other are gone through.
-pub fn kind_where(table: &Table, rising: bool, name: &Name) -> Kind
-    requires { rising ≡ true → rises table.now.columns ≡ true }
-    ensures { result ≡ kind_of_column table.now name.now }
-{
-    match find_column(table.columns.as_slice(), rising, name) {
+    match find_column(table.columns.as_slice(), true, name) {
         Some(column) => column.kind,
         None => Kind::Text,
     }

@@ -1,11 +1,13 @@
 //! What a statement gives on the rows that it read.
-ghost use Rattle.std.specs.Prelude.{◌≡◌, ◌∷◌, [], IfOk, find, unwrap_or};
+ghost use Rattle.std.specs.Prelude.{◌≡◌, ◌∷◌, [], true, IfOk, find, unwrap_or};
 ghost use Rattle.std.specs.Option.{option_copied, option_map};
+ghost use Rattle.sdb_schema.specs.Table.{rises};
 ghost use Rattle.sdb_model.specs.Exec.{not_a_table as not_a_table_lem, with_named};
 ghost use Rattle.sdb_model.specs.declared.statement.Statement.TheVariants as statement;
 ghost use Rattle.sdb_exec.specs.declared.plan.PlanStep.TheVariants as step;
 ghost use Rattle.sdb_exec.specs.Plans.{is_unfit as is_unfit_lem, first_unfit as first_unfit_lem, columns_at, put_row, answer_on, changes_on, finished};
 
+use crate::column::columns_rise;
 use crate::plan::PlanStep;
 use crate::select::selected;
 use crate::{deletes, inserted_key, named_columns, passing, updates};
@@ -17,17 +19,26 @@ use std::alloc::Global;
 
 type Step = Result<PlanStep, NoMemory>;
 
-fn is_unfit(table: &Table, row: &Image) -> bool
+// Whether the table's columns are in the order of their names: for one row it isn't worth to look.
+fn is_known_to_rise(table: &Table, rows: &[Image]) -> bool
+    ensures { result ≡ true → rises table.now.columns ≡ true }
+{
+    rows.len() > 1 && columns_rise(table)
+}
+
+fn is_unfit(table: &Table, rising: bool, row: &Image) -> bool
+    requires { rising ≡ true → rises table.now.columns ≡ true }
     ensures { result ≡ is_unfit_lem table.now row.now }
 {
-    !table.fits(&row.key, &row.columns)
+    !table.fits_where(rising, &row.key, &row.columns)
 }
 
 fn first_unfit<'a>(table: &Table, rows: &'a [Image]) -> Option<&'a Key>
     ensures { option_copied result ≡ first_unfit_lem table.now rows.now }
 {
+    let rising = is_known_to_rise(table, rows);
     rows.iter()
-        .find(|row| is_unfit(table, row))
+        .find(|row| is_unfit(table, rising, row))
         .map(|row| &row.key)
 }
 

@@ -1,8 +1,9 @@
 //! The columns that a statement mentions.
 ghost use Rattle.std.specs.Prelude.{◌≡◌, ◌++◌, IfOk, OnOk, length, map, unwrap_or, []};
+ghost use Rattle.std.specs.Option.{option_map_or};
 ghost use Rattle.sdb_model.specs.Refused.{mention_of_name, mention_of_set, mention_of_test, listed as listed_lem, written as written_lem, mentions as mentions_lem};
 
-use sdb_model::{Mention, Mentions, Statement, Test};
+use sdb_model::{Mention, Mentions, Select, Statement, Test};
 use sdb_types::{Duplicate, Name, NoMemory, Pair, Seq, Value};
 use std::alloc::Global;
 
@@ -38,7 +39,7 @@ fn of_test(test: &Test) -> Result<Mention, NoMemory>
 fn listed(alloc: Global, names: &[Name], values: &[Value]) -> Result<Mentions, NoMemory>
     ensures { IfOk result (λ ms. ms ≡ listed_lem names.now values.now) }
 {
-    let mut found = Seq::new(alloc);
+    let mut found = Seq::with_room(alloc, names.len())?;
     let mut values = values;
     for name in names {
         match values.split_first() {
@@ -52,10 +53,11 @@ fn listed(alloc: Global, names: &[Name], values: &[Value]) -> Result<Mentions, N
     Ok(found)
 }
 
-fn of_sets(alloc: Global, sets: &[Pair]) -> Result<Mentions, NoMemory>
+// Those of SET, with room for so many in all.
+fn of_sets(alloc: Global, room: usize, sets: &[Pair]) -> Result<Mentions, NoMemory>
     ensures { IfOk result (λ ms. ms ≡ map mention_of_set sets.now) }
 {
-    let mut found = Seq::new(alloc);
+    let mut found = Seq::with_room(alloc, room)?;
     for pair in sets {
         found.push(of_literal(&pair.name, &pair.value)?)?;
     }
@@ -74,14 +76,33 @@ pub fn written_count(statement: &Statement) -> usize
     }
 }
 
-// The mentions of the columns that an insert lists or SET names.
+// How many columns a SELECT names.
+fn selected_count(select: &Select) -> usize
+    ensures { result ≡ option_map_or length select.now.columns 0 }
+{
+    match &select.columns {
+        Some(names) => names.len(),
+        None => 0,
+    }
+}
+
+// The mentions of the columns that an insert lists or SET names, with room for all others.
 fn written_in(alloc: Global, statement: &Statement) -> Result<Mentions, NoMemory>
     ensures { IfOk result (λ ms. ms ≡ written_lem statement.now) }
 {
     match statement {
         Statement::Insert(s) => listed(alloc, s.columns.as_slice(), s.values.as_slice()),
         Statement::Upsert(s) => listed(alloc, s.columns.as_slice(), s.values.as_slice()),
-        Statement::Update(s) => of_sets(alloc, s.sets.as_slice()),
+        Statement::Update(s) => of_sets(
+            alloc,
+            s.sets.len().saturating_add(s.tests.len()),
+            s.sets.as_slice(),
+        ),
+        Statement::Select(s) => Seq::with_room(
+            alloc,
+            selected_count(s).saturating_add(s.tests.len()),
+        ),
+        Statement::Delete(s) => Seq::with_room(alloc, s.tests.len()),
         _ => Ok(Seq::new(alloc)),
     }
 }

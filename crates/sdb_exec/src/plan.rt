@@ -95,23 +95,23 @@ fn find_table<'a>(catalog: &'a Catalog, statement: &Statement) -> Option<&'a Tab
 impl Plan {
     /// The plan of a statement, or its refusal. Takes time linear in the statement. A statement that mentions more columns than
     /// 32 bits can number counts as out of memory.
-    pub fn new(alloc: Global, catalog: &Catalog, statement: &Statement) -> Result<Plan, PlanRefused>
-        ensures valid { OnOk result (refusal_of catalog.now statement.now ≡ None) }
-        ensures table { IfOk result (λ p. named_table catalog.now statement.now ≡ Some p.table) }
-        ensures statement { IfOk result (λ p. p.statement ≡ statement.now) }
+    pub fn new(alloc: Global, catalog: &Catalog, statement: Statement) -> Result<Plan, PlanRefused>
+        ensures valid { OnOk result (refusal_of catalog.now statement ≡ None) }
+        ensures table { IfOk result (λ p. named_table catalog.now statement ≡ Some p.table) }
+        ensures statement { IfOk result (λ p. p.statement ≡ statement) }
         ensures first { IfOk result (λ p. p.asked ≡ false) }
-        ensures refused { IfErr result (IsRefusedAs (refusal_of catalog.now statement.now)) }
+        ensures refused { IfErr result (IsRefusedAs (refusal_of catalog.now statement)) }
     {
-        let Some(table) = find_table(catalog, statement) else {
+        let Some(table) = find_table(catalog, &statement) else {
             return Err(PlanRefused::Refused(Refusal { kind: 6, place: 0 }));
         };
-        if let Some(refusal) = refusal_on_table(alloc, table, statement)? {
+        if let Some(refusal) = refusal_on_table(alloc, table, &statement)? {
             return Err(PlanRefused::Refused(refusal));
         }
         Ok(Plan {
             alloc,
             table: table.copy()?,
-            statement: statement.copy()?,
+            statement,
             asked: false,
         })
     }

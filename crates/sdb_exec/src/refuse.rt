@@ -27,8 +27,9 @@ const LONGEST: usize = 4096;
 
 const MOST: usize = 1 << 32;
 
-// Up to as many mentions as this are compared with one another in less time than a set of them is made.
-const FEW: usize = 16;
+// Up to as many mentions as this are compared with one another. Of more, as many of the first are compared with all others, where the rest
+// may rise. Then a set of them takes less time.
+const FEW: usize = 4;
 
 // A refusal's kind, and the index, from 0, of the mention or the column of the key that it names. It is seen as the refusal,
 // whose place counts from 1.
@@ -79,9 +80,7 @@ fn find_unknown(table: &Table, misfits: bool, mentions: &[Mention]) -> Option<us
 fn names_column(mentions: &[Mention], name: &Name) -> bool
     ensures { result ≡ list_any (is_named_by name.now) mentions.now }
 {
-    mentions
-        .iter()
-        .any(|mention| mention.name.cmp(name).is_eq())
+    mentions.iter().any(|mention| mention.name.is_same(name))
 }
 
 // Compares each mention with those before it, up to the first that repeats one of these.
@@ -314,7 +313,7 @@ fn find_long(mentions: &[Mention]) -> Option<usize>
 fn is_listed(names: &[Name], name: &Name) -> bool
     ensures { result ≡ list_any (λ n. same_name n name.now) names.now }
 {
-    names.iter().any(|n| n.cmp(name).is_eq())
+    names.iter().any(|n| n.is_same(name))
 }
 
 fn find_unlisted_name(keys: &[Name], names: &[Name]) -> Option<usize>

@@ -124,7 +124,7 @@ fn plan_on(
     statement: &Statement,
     rows: &[Image],
 ) -> Result<Planned, Fail> {
-    let mut plan = Plan::new(alloc, catalog, statement)?;
+    let mut plan = Plan::new(alloc, catalog, statement.copy()?)?;
     run(alloc, &mut plan, rows)
 }
 

@@ -17,7 +17,7 @@ enum Fate {
     NoMemory,
 }
 
-fn fate_of(alloc: Global, catalog: &Catalog, statement: &Statement) -> Fate {
+fn fate_of(alloc: Global, catalog: &Catalog, statement: Statement) -> Fate {
     match Plan::new(alloc, catalog, statement) {
         Ok(_plan) => Fate::Planned,
         Err(PlanRefused::Refused(Refusal { kind, place })) => Fate::Refused(kind, place),
@@ -27,7 +27,7 @@ fn fate_of(alloc: Global, catalog: &Catalog, statement: &Statement) -> Fate {
 
 fn has_fate(alloc: Global, catalog: &Catalog, text: &str, fate: Fate) -> Result<bool, Fail> {
     let statement = parse_statement(alloc, text)?;
-    Ok(fate_of(alloc, catalog, &statement) == fate)
+    Ok(fate_of(alloc, catalog, statement) == fate)
 }
 
 // A statement that tests a note against a text of so many bytes.
@@ -66,7 +66,7 @@ impl Case for Check {
 }
 
 // The kind and the place of each refusal.
-static REFUSED: [Check; 26] = [
+static REFUSED: [Check; 28] = [
     Check::Text("SELECT x FROM shop.other", Fate::Refused(6, 0)),
     Check::Text("BEGIN", Fate::Refused(6, 0)),
     Check::Text(
@@ -141,6 +141,15 @@ static REFUSED: [Check; 26] = [
     Check::Text(
         "INSERT INTO shop.item (x, x) VALUES (1, 1)",
         Fate::Refused(7, 1),
+    ),
+    // More mentions than are compared with one another: one of them repeated, and none.
+    Check::Text(
+        "INSERT INTO shop.item (qty, note, n, flag, data, cat, big, qty) VALUES (1, 'a', 1, TRUE, X'00', 1, 1, 1)",
+        Fate::Refused(8, 8),
+    ),
+    Check::Text(
+        "INSERT INTO shop.item (qty, note, n, flag, data, cat, big) VALUES (1, 'a', 1, TRUE, X'00', 1, 1)",
+        Fate::Planned,
     ),
     Check::Long(4097, Fate::Refused(13, 3)),
     Check::Long(4096, Fate::Planned),
