@@ -10,16 +10,13 @@ use Rattle.sdb_types.specs.declared.record.Request.TheVariants as ask
 use Rattle.sdb_types.specs.Contents.{Contents, after, holds, in_span, record_among, record_at, rise, rows_in, starts_after}
 use Rattle.sdb_types.specs.Order.{key_cmp, same_key, table_cmp}
 use Rattle.sdb_types.specs.Exact.{equal_of}
-use Rattle.sdb_types.proofs.Public.{and_first, and_second, by_test, false_true, key_total, less_of, rows_in-are_rows_of, same_key_exact, same_key_self, same_key_decides, starts_trans, table_exact}
+use Rattle.sdb_types.proofs.Public.{and_first, and_second, by_test, false_true, key_total, less_of, none_some, rows_in-are_rows_of, same_key_exact, same_key_self, same_key_decides, starts_trans, table_exact}
 use Rattle.law_protocol.proofs.Public.{after_delete, after_put, row_there}
 use Rattle.sdb_contents.specs.declared.seen.Seen.{Seen}
 use Rattle.sdb_contents.specs.Copying.{IsFree, delete_of, delete_on, put_of, requests_for, requests_of, version_in}
 use Rattle.sdb_contents.specs.Joined.{AreApart, IsWhole, after_all, is_among}
 use Rattle.sdb_contents.specs.Writes.{span_of}
 use Rattle.sdb_contents.proofs.Versions.{version_is}
-
-no_some : {A B : Type 0} {x : A} → ◌≡◌ {A = Option A} None (Some x) → B
-no_some e = absurd (cc)
 
 ---- the rows of a span are what is at their keys
 
@@ -65,7 +62,7 @@ rows_agree t m =
 
 -- a claim of all rows, at the one with a key
 pub among_all : (P : Record → Type 0) (rows : List Record) (k : Key) (r : Record) → AllByRecursion P rows → record_among rows k ≡ Some r → P r × (k ≡ r.key)
-among_all P [] k r h e = no_some e
+among_all P [] k r h e = absurd (none_some r e)
 among_all P (x ∷ xs) k r h e = by_test (same_key k x.key) here (λ q. among_all P xs k r h.1 (sym (ap (λ (b : Bool). cond b (Some x) (record_among xs k)) q) ∙ e))
   where
     here : same_key k x.key ≡ true → P r × (k ≡ r.key)
@@ -194,7 +191,7 @@ put_there f r cur own (inl none) = put_where r cur r.key true (ap (λ (b : Bool)
 put_there f r cur own (inr same) = put_stays r r cur r.key (same ∙ own)
 
 pub fills : (f : Contents) (k : Key) (rows : List Record) (cur : Contents) → Agree f rows → IsFilled f cur k → IsFilled f (after_all (map put_of rows) cur) k × ((x : Record) → record_among rows k ≡ Some x → record_at (after_all (map put_of rows) cur) k ≡ Some x)
-fills f k [] cur agree h = (h, λ x e. no_some e)
+fills f k [] cur agree h = (h, λ x e. absurd (none_some x e))
 fills f k (r ∷ rs) cur agree h =
     let rest = fills f k rs (after (put_of r) cur) agree.1 (put_fills f r cur k agree.0 h) in
     (rest.0, λ x e. by_test (same_key k r.key) (here x e) (λ q. rest.1 x (sym (ap (λ (b : Bool). cond b (Some r) (record_among rs k)) q) ∙ e)))

@@ -3,8 +3,7 @@ use Rattle.std.proofs.Common.{◌≡◌, ℕ, ◌<◌, ◌^◌, Bool, true, fals
 use Rattle.std.proofs.lemmas.Bool.Decides.{Decides-eqb}
 use Rattle.std.specs.Prelude.{pos, ◌&&◌, ◌||◌, if◌then◌else◌}
 use Rattle.std.specs.Option.{option_map_or}
-use Rattle.std.specs.Cmp.{tied_itself, both_ways}
-use Rattle.std.specs.Ordering.{is_eq}
+use Rattle.std.specs.Cmp.{both_ways}
 use Rattle.sdb_contents.specs.Types.{Record, State, TxId, Value}
 use Rattle.sdb_types.specs.declared.record.Put.{Put}
 use Rattle.sdb_types.specs.declared.record.Request.TheVariants as ask
@@ -13,21 +12,15 @@ use Rattle.sdb_types.specs.declared.value.Value.TheVariants as value
 use Rattle.sdb_types.specs.Columns.{column}
 use Rattle.sdb_types.specs.Contents.{has_value, state_number, tx_id, tx_state}
 use Rattle.sdb_types.specs.TxId.{id_text}
-use Rattle.sdb_types.specs.ValueLaws.{value_total}
 use Rattle.sdb_record.specs.Meta.{id_in, id_in_value, state_in, state_in_value}
-use Rattle.sdb_record.proofs.Public.{has_int, has_value-is, id_of_text-id_text, id_of_text-is, state_value}
+use Rattle.sdb_types.proofs.Public.{and_true}
+use Rattle.sdb_record.proofs.Public.{has_int, has_value-is, id-value, id_of_text-id_text, state_value}
 use Rattle.sdb_contents.specs.Order.{is_of}
 use Rattle.sdb_model.specs.Transactions.{is_prepared_record, prepares}
 
 -- it has this state
 abbrev agrees : State → Record → Bool
 agrees s r = has_value (column r.columns tx_state) (value.Int (state_number s))
-
-has_id : (o : Option Value) (id : TxId) → id_in_value o ≡ Some id → has_value o (value.Text (id_text id.0)) ≡ true
-has_id None id h = absurd (cc)
-has_id (Some (value.Text text)) id h =
-    ap (λ t. has_value (Some (value.Text t)) (value.Text (id_text id.0))) (id_of_text-is text id h).1 ∙ ap is_eq (tied_itself value_total (value.Text (id_text id.0)))
-has_id (Some v) id h = absurd (cc)
 
 -- a record is a transaction's where its id is that which is read
 written : (o : Option Value) (id : TxId) (f : Option TxId) → id.0 < 2 ^ 128 → id_in_value o ≡ f → option_map_or (λ (x : TxId). eqb x.0 id.0) f false ≡ has_value o (value.Text (id_text id.0))
@@ -41,7 +34,7 @@ written o id f small h =
   where
     found : (f : Option TxId) → option_map_or (λ (x : TxId). eqb x.0 id.0) f false ≡ true → id_in_value o ≡ f → has_value o (value.Text (id_text id.0)) ≡ true
     found None k e = absurd (cc)
-    found (Some x) k e = subst (λ (n : ℕ). has_value o (value.Text (id_text n)) ≡ true) ((Decides-eqb x.0 id.0).0 k) (has_id o x e)
+    found (Some x) k e = subst (λ (n : ℕ). has_value o (value.Text (id_text n)) ≡ true) ((Decides-eqb x.0 id.0).0 k) (id-value o x e)
 
 wrote : (r : Record) (id : TxId) (f : Option TxId) → id.0 < 2 ^ 128 → id_in r.columns ≡ f → has_value (column r.columns tx_id) (value.Text (id_text id.0)) ≡ is_of id f
 wrote r id f small e = sym (written (column r.columns tx_id) id f small e)
@@ -77,10 +70,6 @@ by_state r id s e = both (has_value (column r.columns tx_id) (value.Text (id_tex
     both : (a p d : Bool) → ((a && p) || (a && d)) ≡ (a && (p || d))
     both true p d = refl
     both false p d = refl
-
-and_true : (b : Bool) → (b && true) ≡ b
-and_true true = refl
-and_true false = refl
 
 -- where it is in such a state, it is its writer's
 pub by_writer : (r : Record) (id : TxId) (s : Option State) (f : Option TxId) → id.0 < 2 ^ 128 → state_in r.columns ≡ s → is_open s ≡ true → id_in r.columns ≡ f → is_prepared_record id r ≡ is_of id f
