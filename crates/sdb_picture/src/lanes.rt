@@ -1,5 +1,5 @@
 //! The lanes of a picture: a client, a store or a record each.
-ghost use Rattle.std.specs.Prelude.{◌≡◌, ◌==◌, OnOk, IfOk, fold, position};
+ghost use Rattle.std.specs.Prelude.{◌≡◌, ◌==◌, ◌∷◌, ◌++◌, [], OnOk, IfOk, fold, position};
 ghost use Rattle.sdb_model.specs.Rows.{same_name};
 ghost use Rattle.sdb_picture.specs.Lanes as spec;
 
@@ -139,12 +139,18 @@ fn clients_of(alloc: Global, events: &[Event]) -> Result<Seq<u32>, NoMemory>
     Ok(clients)
 }
 
+fn push_store(stores: &mut Seq<Name>, store: &Name) -> Result<(), NoMemory>
+    ensures { OnOk result (stores.new ≡ stores.old ++ store.now ∷ []) }
+{
+    stores.push(store.copy()?)
+}
+
 fn add_store(stores: &mut Seq<Name>, store: &Name) -> Result<(), NoMemory>
     ensures { OnOk result (stores.new ≡ spec.with_store stores.old store.now) }
 {
     match store_place(stores.as_slice(), store) {
         Some(_) => Ok(()),
-        None => stores.push(store.copy()?),
+        None => push_store(stores, store),
     }
 }
 
